@@ -1,0 +1,17 @@
+pub mod Tests
+pub mod Broken
+pub mod Order
+pub mod Regions
+pub mod Minimals
+pub mod Ahead
+pub mod Walk
+pub mod Prefix
+pub mod Count
+pub mod Total
+pub mod Lister
+pub mod Depth
+pub mod Rows
+pub mod Replies
+pub mod Records
+pub mod Numerals
+pub mod Reading

@@ -1,0 +1,7 @@
+pub mod Language
+pub mod Models
+pub mod Ahead
+pub mod Search
+pub mod Rows
+pub mod Lister
+pub mod Numbers
