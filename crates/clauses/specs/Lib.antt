@@ -1,0 +1,4 @@
+pub mod Clauses
+pub mod Origins
+pub mod Sources
+pub mod Tables
