@@ -1,0 +1,4 @@
+pub mod Splits
+pub mod Rows
+pub mod Loads
+pub mod Once
