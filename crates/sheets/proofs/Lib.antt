@@ -1,0 +1,4 @@
+pub mod Marks
+pub mod Parts
+pub mod Shown
+pub mod Turns
