@@ -1,0 +1,3 @@
+pub mod Ours
+pub mod Nodes
+pub mod Sides
