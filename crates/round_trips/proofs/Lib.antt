@@ -1,0 +1,5 @@
+pub mod Rows
+pub mod Placed
+pub mod Undone
+pub mod Runs
+pub mod Once

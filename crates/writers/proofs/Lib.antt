@@ -1,0 +1,7 @@
+pub mod Found
+pub mod Turns
+pub mod Heads
+pub mod Lines
+pub mod Fills
+pub mod Written
+pub mod Once
