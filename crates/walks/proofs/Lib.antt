@@ -1,0 +1,5 @@
+pub mod Advances
+pub mod Presents
+pub mod Records
+pub mod Soundness
+pub mod Weights
