@@ -1,0 +1,3 @@
+// Runs of calls on cases, over tables and flat shelves.
+#[cfg(test)]
+mod tests;

@@ -1,0 +1,4 @@
+pub mod Cases
+pub mod Observing
+pub mod Refusals
+pub mod Requests

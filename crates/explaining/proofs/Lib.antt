@@ -1,0 +1,5 @@
+pub mod Requests
+pub mod Named
+pub mod Sizes
+pub mod Printed
+pub mod Once

@@ -1,0 +1,5 @@
+pub mod Answers
+pub mod Histories
+pub mod Phases
+pub mod States
+pub mod Theorems
