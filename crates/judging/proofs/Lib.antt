@@ -1,0 +1,4 @@
+pub mod Judged
+pub mod Passed
+pub mod Reasoned
+pub mod Filling

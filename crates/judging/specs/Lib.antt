@@ -1,0 +1,4 @@
+pub mod Standing
+pub mod Refusals
+pub mod Reasons
+pub mod Laws
