@@ -1,0 +1,4 @@
+mod Asked
+mod Kept
+mod Links
+mod Walked
