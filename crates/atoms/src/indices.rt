@@ -1,5 +1,6 @@
 // Making an atom from its number, and reading it. `index a` is the number of the atom `a`.
-ghost use Rattle.std.specs.Prelude.{◌≡◌, ◌<◌, ◌≤◌, Decides, MatchOption};
+ghost use Rattle.std.specs.Prelude.{◌≡◌, ◌<◌, ◌≤◌, MatchOption, nat_eq};
+ghost use Rattle.std.specs.Ordering.{on};
 ghost use Rattle.atoms.specs.Atoms.{index, width};
 ghost use Rattle.std.specs.Cmp.Rules.{comparing};
 ghost use Rattle.std.proofs.Common.{rules, arith};
@@ -30,7 +31,7 @@ impl Atom {
 
 // Two atoms are equal where they have one number.
 impl PartialEq for Atom {
-    ghost equals = { λ a b r. Decides r (index a ≡ index b) };
+    ghost eq = { on index nat_eq };
 
     ghost laws = { Keys.partial_equiv_from_equiv (first_of (Prim.search (comparing, rules), Prim.grind (arith, Self.row.coded.inj))) };
 

@@ -1,3 +1,4 @@
+#![tactic(auto)]
 // Atoms and sets of atoms. The only crate that knows how many atoms there are and how a set lies in words.
 ghost use Rattle.std.specs.Prelude.{◌^◌, ◌<◌};
 

@@ -170,7 +170,7 @@ impl AtomSet {
 
 // Two sets are equal where they have the same atoms.
 impl PartialEq for AtomSet {
-    ghost eq = { on (λ v. v.word) nat_eq };
+    ghost eq = { on bits nat_eq };
 
     ghost laws = { Keys.partial_equiv_from_equiv (first_of (Prim.search (comparing, rules), Prim.grind (arith, Self.row.coded.inj))) };
 

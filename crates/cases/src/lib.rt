@@ -1,3 +1,4 @@
+#![tactic(auto)]
 // Cases: observations over a source, and the listing of the explanations of both.
 use layers::Observed;
 use walks::Walk;

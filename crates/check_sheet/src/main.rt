@@ -1,3 +1,4 @@
+#![tactic(auto)]
 // Reads a sheet from the standard input, and prints its clauses in words or why it is no sheet.
 use help::HELP;
 use std::io;

@@ -1,3 +1,4 @@
+#![tactic(auto)]
 // Clauses, where they come from, and sources: a source means a list of clauses.
 pub mod clauses;
 pub mod origins;

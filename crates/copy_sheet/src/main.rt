@@ -1,3 +1,4 @@
+#![tactic(auto)]
 // Reads a sheet from the standard input, writes it again from its clauses, and prints it, or why it is no sheet.
 use atoms::AtomSet;
 use clauses::{Clause, Kind, Origin};

@@ -1,3 +1,4 @@
+#![tactic(auto)]
 // Reads a sheet, an empty line and commands on a case over it from the standard input, and prints the answers in words.
 use help::HELP;
 use std::io;

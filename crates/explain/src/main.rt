@@ -1,3 +1,4 @@
+#![tactic(auto)]
 // Reads a sheet from the standard input, and prints its explanations.
 use explaining::explain;
 use help::HELP;

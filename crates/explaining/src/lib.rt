@@ -1,3 +1,4 @@
+#![tactic(auto)]
 // From the bytes of a sheet to the bytes of the report of its explanations.
 ghost use Rattle.std.specs.Prelude.{IfOk};
 ghost use Rattle.explaining.specs.Explained.{Explained, OnePrinted};

@@ -1,3 +1,4 @@
+#![tactic(auto)]
 // The sheet format: which texts are sheets, and where the names and the clauses of a sheet lie in its text.
 ghost use Rattle.formats.specs.Outcomes.{OneOutcome};
 

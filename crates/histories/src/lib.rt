@@ -1,3 +1,4 @@
+#![tactic(auto)]
 // Histories: runs of calls on a case, and the law that the answers of a whole run keep.
 pub mod calls;
 pub mod replays;

@@ -1,3 +1,4 @@
+#![tactic(auto)]
 // The indexed shelf: sets chained by their least atom, in memory that its maker lends.
 ghost use Rattle.std.specs.Prelude.{◌≤◌, min, length};
 ghost use Rattle.indexed.specs.Chains.{HeadsLead, LinksLead, RunsShare, SkipsFall, SkipsLead};

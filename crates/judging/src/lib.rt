@@ -1,3 +1,4 @@
+#![tactic(auto)]
 // Judging a set in a case at rest: is it a model, is it a minimal one, and why is each of its atoms in it?
 mod judges;
 pub mod laws;

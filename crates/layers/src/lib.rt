@@ -1,3 +1,4 @@
+#![tactic(auto)]
 // Layers over a source: each adds clauses of its own in front of those of the source below it.
 pub mod capped;
 pub mod laws;

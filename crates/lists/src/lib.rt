@@ -1,3 +1,4 @@
+#![tactic(auto)]
 // A list of bounded length, in memory that its maker lends.
 ghost use Rattle.std.specs.Prelude.{◌≤◌, min, length};
 ghost use Rattle.lists.specs.Limit.{limit};

@@ -1,3 +1,4 @@
+#![tactic(auto)]
 // Sheets that are read and written again, and written and read again.
 ghost use Rattle.round_trips.specs.Laws.{OneRereadReply, OneRewriteReply, ReadWritten, WrittenRead};
 

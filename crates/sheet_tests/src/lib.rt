@@ -1,3 +1,4 @@
+#![tactic(auto)]
 // Examples of sheets: which texts are accepted, which are refused and how, and what a sheet then means.
 #[cfg(test)]
 mod meaning;

@@ -1,3 +1,4 @@
+#![tactic(auto)]
 // Sheets: a table of clauses as text, loaded without a copy, and the clauses read straight from its text.
 ghost use Rattle.sheets.specs.Lines.{LinesMakeText};
 ghost use Rattle.sheets.specs.Meaning.{RowsReadOff};

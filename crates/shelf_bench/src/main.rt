@@ -1,3 +1,4 @@
+#![tactic(auto)]
 // Keeps made-up sets on a shelf and asks it made-up questions, for a clock outside to measure. The words of the call say which
 // shelf, in which order the sets come, how many sets and how many questions: `shelf_bench indexed listed 65536 1000`.
 use crate::made::Order;

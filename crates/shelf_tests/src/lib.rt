@@ -1,3 +1,4 @@
+#![tactic(auto)]
 // What callers can prove of lists and shelves, and runs of them.
 mod callers;
 mod placeless;

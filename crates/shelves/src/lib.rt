@@ -1,3 +1,4 @@
+#![tactic(auto)]
 // Shelves: lists of sets with a fixed number of places.
 ghost use Rattle.std.specs.Prelude.{◌≡◌, ℕ, ◌≤◌, List, [], length, MatchBool, MatchResult};
 ghost use Rattle.atoms.specs.declared.AtomSet.{AtomSet};

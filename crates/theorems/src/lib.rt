@@ -1,3 +1,4 @@
+#![tactic(auto)]
 // The theorems about minimal models and their list, each on the contract of a function. The functions do nothing.
 ghost use Rattle.theorems.specs.Lists.{BySides, ComputedList, EmptyList, FirstBroken, Fronts, Minimal-inside, OneList, StrictOrder};
 ghost use Rattle.theorems.specs.Splitting.{Splitting};

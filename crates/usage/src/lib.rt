@@ -1,3 +1,4 @@
+#![tactic(auto)]
 // What the programs share in speaking to a person: their arguments, and what a refused sheet is to be.
 pub mod advice;
 pub mod arguments;

@@ -1,3 +1,4 @@
+#![tactic(auto)]
 // The walk: the search for the explanations of a list of clauses, depth first, over a table of branch records.
 ghost use Rattle.std.specs.Prelude.{◌≡◌, ◌≤◌, length};
 ghost use Rattle.walks.specs.Branches.{Live, Sized, Apart};

@@ -1,3 +1,4 @@
+#![tactic(auto)]
 // Clauses, and what reading a sheet comes to, in words.
 mod phrases;
 mod reports;

@@ -1,3 +1,4 @@
+#![tactic(auto)]
 // Examples of written sheets and reports, of their refusals, and of the round trips.
 #[cfg(test)]
 mod made;

@@ -1,3 +1,4 @@
+#![tactic(auto)]
 // Writing sheets and reports into a given buffer.
 ghost use Rattle.writers.specs.Replies.{OneReply};
 
