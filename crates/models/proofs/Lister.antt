@@ -197,7 +197,7 @@ module _ {S C : Type 0} {L : Language S C} (laws : Laws L) where
 
     -- every model includes a minimal model
     pub includes_minimal : (t : S) → Model L cs t → (m : S) × Minimal L cs m × Within L m t
-    includes_minimal t h = minimals.includes-minimal laws cs t h
+    includes_minimal t h = minimals.includes_minimal laws cs t h
 
     -- the list is empty exactly when there is no model at all
     pub empty_none : (ms : List S) → Explanations L cs ms → ms ≡ [] → (t : S) → ¬ Model L cs t

@@ -16,14 +16,14 @@ pub loop-i-preserved : goal.loop-i-preserved
 unfolding breaks
 loop-i-preserved c =
     sym (numbered_later at_place (bits c.args.set) c.args.self.now.records.now [] c.loop-i.i c.record-item.result
-    c.loop-i-test.true c.record-item.is (decided false (bits c.args.set) c.record-item.result c.if-is-broken-by.ensures))
+    c.loop-i-test.true c.record-item.is (decided false (bits c.args.set) c.record-item.result c.if-is_broken_by.ensures))
     ∙ c.loop-i.invariant
 
-pub returns-then-is-broken-by : goal.returns-then-is-broken-by
+pub returns-then-is_broken_by : goal.returns-then-is_broken_by
 unfolding breaks
-returns-then-is-broken-by c =
+returns-then-is_broken_by c =
     sym (numbered_here at_place (bits c.args.set) c.args.self.now.records.now [] c.loop-i.i c.record-item.result
-    c.loop-i-test.true c.record-item.is (decided true (bits c.args.set) c.record-item.result c.if-is-broken-by.ensures))
+    c.loop-i-test.true c.record-item.is (decided true (bits c.args.set) c.record-item.result c.if-is_broken_by.ensures))
     ∙ c.loop-i.invariant
 
 pub returns : goal.returns

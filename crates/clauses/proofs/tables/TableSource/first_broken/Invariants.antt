@@ -8,5 +8,5 @@ use Rattle.clauses.proofs.tables.TableSource.first_broken.Given as goal
 -- what is left of the table gives the answer
 abbrev pub invariant-loop-i : goal.invariant-loop-i
 invariant-loop-i l =
-    first_broken language (numbered at_place l.i (drop l.i l.self.records.now) ++ []) (bits l.set)
-    ≡ first_broken language (placed l.self.records.now) (bits l.set)
+    first_broken language (numbered at_place l.i (drop l.i l.self.records.now) ++ []) (bits l.fn.set)
+    ≡ first_broken language (placed l.self.records.now) (bits l.fn.set)
