@@ -1,5 +1,5 @@
 -- The question by chains: the atoms of `s` one after another, of which the set `left` is still to come.
-use Rattle.std.proofs.Common.{◌≡◌, ℕ, ◌<◌, ◌≤◌, true, ltb, ◌≢◌, ◌⊎◌, List, ◌∙◌, inl, inr, arith}
+use Rattle.std.proofs.Common.{◌≡◌, ℕ, ◌<◌, ltb, ◌≢◌, List, ◌∙◌, inl, inr, arith}
 use mathlib.Core.List.{Memᴰ}
 use Rattle.atoms.proofs.Members.{pos_from-has}
 use Rattle.atoms.specs.Atoms.{bits, width}

@@ -1,5 +1,5 @@
 -- The sets of the first records, and the chain of a set.
-use Rattle.std.proofs.Common.{◌≡◌, ℕ, zero, suc, ◌+◌, ◌<◌, ◌≤◌, List, [], ◌∷◌, ◌++◌, map, length, get_or, take, set, sym, refl, ap, ◌∙◌, subst, arith}
+use Rattle.std.proofs.Common.{◌≡◌, ℕ, suc, ◌+◌, ◌<◌, ◌≤◌, List, [], ◌∷◌, ◌++◌, map, length, get_or, take, set, sym, ap, ◌∙◌, arith}
 use mathlib.Core.List.{Memᴰ}
 use lib.Count.{trailing_le, trailing_of_zero, count_trailing_zeros}
 use Rattle.atoms.proofs.Members.{least_unique, trailing_least}

@@ -1,5 +1,5 @@
 -- Where links lead, and that one set more keeps it so.
-use Rattle.std.proofs.Common.{◌≡◌, ℕ, zero, suc, ◌+◌, ◌-◌, ◌<◌, ◌≤◌, cond, eqb, ◌≢◌, ◌⊎◌, List, length, get_or, set, replicate, sym, refl, ap, ◌∙◌, subst, inl, inr, add-one, arith}
+use Rattle.std.proofs.Common.{◌≡◌, ℕ, zero, suc, ◌+◌, ◌-◌, ◌<◌, ◌≤◌, cond, ◌≢◌, List, length, get_or, set, replicate, sym, refl, ap, ◌∙◌, inl, inr, add-one, arith}
 use Rattle.atoms.specs.Atoms.{width}
 use Rattle.indexed.specs.Chains.{HeadsLead, LinksLead, blank, chain_at, chain_of, last, link_at}
 use Rattle.indexed.specs.declared.record.ShelfRecord.{ShelfRecord}

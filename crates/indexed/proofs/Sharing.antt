@@ -1,10 +1,10 @@
 -- Runs of a chain, and that one set more keeps what they share.
-use Rattle.std.proofs.Common.{◌≡◌, ℕ, ◌+◌, ◌-◌, ◌<◌, ◌≤◌, ◌≢◌, ◌⊎◌, List, length, get_or, set, sym, refl, ap, ◌∙◌, subst, inl, inr, arith}
+use Rattle.std.proofs.Common.{◌≡◌, ℕ, ◌+◌, ◌-◌, ◌<◌, ◌≤◌, ◌≢◌, List, length, get_or, set, sym, refl, ap, ◌∙◌, subst, inl, inr, arith}
 use Rattle.atoms.specs.Atoms.{bits}
 use Rattle.atoms.specs.Sets.{◌⊆◌, has}
 use Rattle.atoms.specs.declared.AtomSet.{AtomSet}
 use Rattle.indexed.proofs.Links.{last_low, last_on, last_skips}
-use Rattle.indexed.specs.Chains.{InRun, RunsShare, Shared, SkipsFall, SkipsLead, blank, chain_at, chain_of, last, set_at}
+use Rattle.indexed.specs.Chains.{RunsShare, Shared, SkipsFall, SkipsLead, blank, chain_at, chain_of, last, set_at}
 use Rattle.indexed.specs.declared.record.ShelfRecord.{ShelfRecord}
 use Rattle.std.proofs.lemmas.List.{get_or-set_other, get_or-set_same}
 use Rattle.std.proofs.lemmas.Bool.{cases_eq, cases_lt}

@@ -1,13 +1,13 @@
 -- A walk along a chain, from its head on.
-use Rattle.std.proofs.Common.{◌≡◌, ℕ, ◌-◌, ◌<◌, ◌≤◌, ◌≢◌, ◌⊎◌, List, length, get_or, sym, ap, ◌∙◌, subst, inl, inr, arith}
+use Rattle.std.proofs.Common.{◌≡◌, ℕ, ◌-◌, ◌<◌, ◌≤◌, List, length, get_or, sym, ap, ◌∙◌, subst, inl, inr, arith}
 use mathlib.Core.List.{Memᴰ}
-use Rattle.atoms.specs.Atoms.{bits, width}
+use Rattle.atoms.specs.Atoms.{bits}
 use Rattle.atoms.specs.Sets.{◌⊆◌, has}
 use Rattle.atoms.specs.declared.AtomSet.{AtomSet}
 use Rattle.indexed.proofs.Links.{last_low, last_on, last_skips}
 use Rattle.indexed.proofs.Kept.{member_place, sets_at, sets_length}
 use Rattle.indexed.proofs.Sharing.{RunOf, Runs}
-use Rattle.indexed.specs.Chains.{HeadsLead, LinksLead, NoneIn, blank, chain_at, chain_of, last, link_at, set_at}
+use Rattle.indexed.specs.Chains.{LinksLead, NoneIn, blank, chain_at, chain_of, last, link_at, set_at}
 use Rattle.indexed.specs.Shelved.{sets_of}
 use Rattle.indexed.specs.declared.record.ShelfRecord.{ShelfRecord}
 use Rattle.shelves.proofs.Held.{member_at}

@@ -1,5 +1,5 @@
 -- What an indexed shelf means.
-use Rattle.std.specs.Prelude.{◌≡◌, ℕ, min, List, map, length, take, set, slice_set}
+use Rattle.std.specs.Prelude.{◌≡◌, ℕ, min, List, map, length, take, slice_set}
 use Rattle.atoms.specs.declared.AtomSet.{AtomSet}
 use Rattle.indexed.specs.declared.IndexedShelf.{IndexedShelf}
 use Rattle.indexed.specs.declared.record.ShelfRecord.{ShelfRecord}

@@ -3,6 +3,7 @@
 // shelf, in which order the sets come, how many sets and how many questions: `shelf_bench indexed listed 65536 1000`.
 use crate::made::Order;
 use crate::tallies::{Plan, Tally};
+use anyhow::Context;
 use atoms::AtomSet;
 use indexed::{IndexedShelf, ShelfRecord};
 use shelves::FlatShelf;
@@ -54,13 +55,13 @@ fn measure(heap: Global, measured: Measured, plan: Plan) -> Result<Tally, AllocE
 fn bench(rt: &HostRuntime) -> anyhow::Result<()> {
     let mut words = env::args(rt)?;
     let _ = words.next();
-    let shelf = words.next().ok_or(USAGE)?;
-    let order = words.next().ok_or(USAGE)?;
-    let sets = words.next().ok_or(USAGE)?;
-    let questions = words.next().ok_or(USAGE)?;
-    let measured = read_measured(shelf.as_str()).ok_or(USAGE)?;
+    let shelf = words.next().context(USAGE)?;
+    let order = words.next().context(USAGE)?;
+    let sets = words.next().context(USAGE)?;
+    let questions = words.next().context(USAGE)?;
+    let measured = read_measured(shelf.as_str()).context(USAGE)?;
     let plan = Plan {
-        order: read_order(order.as_str()).ok_or(USAGE)?,
+        order: read_order(order.as_str()).context(USAGE)?,
         sets: sets.as_str().parse::<usize>()?,
         questions: questions.as_str().parse::<usize>()?,
     };

@@ -1,5 +1,5 @@
 -- The walk goes from link to link until a set is contained, or the chain ends.
-use Rattle.std.proofs.Common.{◌≡◌, ℕ, ◌-◌, ◌<◌, ◌≤◌, length, get_or, sym, ap, subst, arith}
+use Rattle.std.proofs.Common.{ℕ, ◌-◌, ◌<◌, ◌≤◌, length, get_or, sym, ap, subst, arith}
 use Rattle.atoms.specs.Atoms.{bits}
 use Rattle.atoms.specs.Sets.{◌⊆◌, has, hasb}
 use Rattle.indexed.proofs.IndexedShelf.chain_holds.Goals as goal
@@ -15,14 +15,14 @@ loop-link-init c =
     let k = c.args.chain in
     walk_from_head s.memory.now s.len k c.args.set (get_or s.heads k 0) (s.first k c.requires)
 
-pub returns-then-is-subset : goal.returns-then-is-subset
-returns-then-is-subset c =
+pub returns-then-is_subset : goal.returns-then-is_subset
+returns-then-is_subset c =
     let s = c.args.self.now in
     let v = c.loop-link.link in
     let within : s.len ≤ length s.memory.now = omega arith in
     let below : v - 1 < length s.memory.now = omega (arith, c.loop-link.invariant.low) in
     let read = get_or_read s.memory.now (v - 1) c.index-memory-link.result below c.index-memory-link.is blank in
-    let sub = subst (λ r. bits r.set ⊆ bits c.args.set) read c.if-is-subset.ensures in
+    let sub = subst (λ r. bits r.set ⊆ bits c.args.set) read c.if-is_subset.ensures in
     walk_finds s.memory.now s.len c.args.chain c.args.set v c.loop-link-test.true within sub c.loop-link.invariant
 
 pub loop-link-preserved : goal.loop-link-preserved
@@ -32,21 +32,21 @@ loop-link-preserved c =
     let v = c.loop-link.link in
     let below : v - 1 < length s.memory.now = omega (arith, c.loop-link.invariant.low) in
     let read = get_or_read s.memory.now (v - 1) c.index-memory-link.result below c.index-memory-link.is blank in
-    let out = c.if-is-subset.ensures in
+    let out = c.if-is_subset.ensures in
     let there = subst (λ r. has (bits r.set) out.0) read out.1 in
     subst (Walked s.memory.now s.len c.args.chain q) (sym (ap (λ r. r.link) read))
     (walk_on s.memory.now s.len c.args.chain q v c.loop-link-test.true s.further
     (λ sub. both_ways (hasb (bits q) out.0) out.2 (sub out.0 there)) c.loop-link.invariant)
 
 -- the run is passed over
-pub loop-link-preserved-then-not-is-subset : goal.loop-link-preserved-then-not-is-subset
-loop-link-preserved-then-not-is-subset c =
+pub loop-link-preserved-then-not-is_subset : goal.loop-link-preserved-then-not-is_subset
+loop-link-preserved-then-not-is_subset c =
     let s = c.args.self.now in
     let q = c.args.set in
     let v = c.loop-link.link in
     let below : v - 1 < length s.memory.now = omega (arith, c.loop-link.invariant.low) in
     let read = get_or_read s.memory.now (v - 1) c.index-memory-link.result below c.index-memory-link.is blank in
-    let out = c.if-not-is-subset.ensures in
+    let out = c.if-not-is_subset.ensures in
     let there = subst (λ r. has (bits r.common) out.0) read out.1 in
     subst (Walked s.memory.now s.len c.args.chain q) (sym (ap (λ r. r.skip) read))
     (walk_past s.memory.now s.len c.args.chain q v c.loop-link-test.true

@@ -1,5 +1,5 @@
 -- Runs before the set are taken in one after another.
-use Rattle.std.proofs.Common.{◌≡◌, ℕ, ◌-◌, ◌<◌, ◌≤◌, length, get_or, sym, ap, ◌∙◌, subst, arith}
+use Rattle.std.proofs.Common.{ℕ, ◌-◌, ◌<◌, length, sym, ap, ◌∙◌, subst, arith}
 use Rattle.atoms.specs.Atoms.{bits}
 use Rattle.atoms.specs.Sets.{◌⊆◌, has, hasb}
 use Rattle.indexed.proofs.IndexedShelf.run_to.Goals as goal
@@ -14,8 +14,8 @@ loop-skip-init c =
     let set = c.args.set in
     (run_none s.memory.now (chain_of set) s.len set c.args.link c.requires, λ a h. h)
 
-pub overflow-sub-skip : goal.overflow-sub-skip
-overflow-sub-skip c =
+pub overflow_sub-skip : goal.overflow_sub-skip
+overflow_sub-skip c =
     let s = c.args.self.now in
     let v = c.loop-skip.skip in
     let below : v - 1 < length s.memory.now = omega (arith, c.loop-skip.invariant.0.low) in

@@ -1,5 +1,5 @@
 -- Each turn pushes one element more; at the end the list is all of them.
-use Rattle.std.proofs.Common.{◌≡◌, ◌<◌, length, get_or, take, sym, ap, ◌∙◌, subst, arith, rules}
+use Rattle.std.proofs.Common.{◌<◌, length, get_or, take, sym, ap, ◌∙◌, subst, arith, rules}
 use Rattle.lists.proofs.Fills.{filled_push}
 use Rattle.lists.specs.Items.{Filled, cells}
 use Rattle.shelf_tests.proofs.callers.list_all.Goals as goal
@@ -13,7 +13,7 @@ loop-element-preserved c =
     let list = c.loop-element.list in
     let after = c.push.new.self in
     let inv = c.loop-element.invariant in
-    let pushed = c.in-ok-push.ensures.answer in
+    let pushed = c.in_ok-push.ensures.answer in
     let same = ap length inv.0.holds in
     let place : length (take i xs) < length before = omega (arith, pushed.had_place, inv.1) in
     let filled = filled_push before (take i xs) list after (get_or xs i 0) place inv.0 pushed in (

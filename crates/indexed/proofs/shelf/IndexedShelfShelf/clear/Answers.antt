@@ -3,8 +3,15 @@ use Rattle.indexed.proofs.Links.{heads_none, links_none}
 use Rattle.indexed.proofs.Sharing.{falls_from, leads_from, runs_none, shares_from}
 use Rattle.indexed.proofs.shelf.IndexedShelfShelf.clear.Goals as goal
 
-pub invariant-of-self : goal.invariant-of-self
-invariant-of-self c =
+pub invariant_of-self : goal.invariant_of-self
+invariant_of-self c =
     let rs = c.args.self.now.memory.now in
     let runs = runs_none rs in
-    (search rules, (heads_none rs, (links_none rs, (falls_from rs 0 runs, (leads_from rs 0 runs, (shares_from rs 0 runs, tt))))))
+    record {
+      fits = search rules;
+      first = heads_none rs;
+      further = links_none rs;
+      falls = falls_from rs 0 runs;
+      back = leads_from rs 0 runs;
+      shared = shares_from rs 0 runs;
+    }

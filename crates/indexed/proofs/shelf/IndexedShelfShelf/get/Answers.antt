@@ -1,4 +1,4 @@
-use Rattle.std.proofs.Common.{◌≡◌, ◌<◌, ◌≤◌, length, Some, sym, ap, ◌∙◌, arith}
+use Rattle.std.proofs.Common.{◌<◌, ◌≤◌, length, Some, sym, ap, ◌∙◌, arith}
 use Rattle.indexed.proofs.Kept.{sets_at, sets_length}
 use Rattle.indexed.proofs.shelf.IndexedShelfShelf.get.Goals as goal
 use Rattle.indexed.specs.Chains.{blank, set_at}

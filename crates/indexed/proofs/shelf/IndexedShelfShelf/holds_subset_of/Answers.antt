@@ -14,10 +14,10 @@ loop-atom-preserved c =
     let left = c.loop-atom.left in
     let atom = c.number.result in
     let least = subst (Least (bits left)) (sym c.number.ensures.value) c.in-Some.ensures.0 in
-    asked_more (sets_on c.args.self.now) c.args.set left c.without-least-left.result atom least
-    c.without-least-left.ensures c.if-chain-holds-2.ensures c.loop-atom.invariant
+    asked_more (sets_on c.args.self.now) c.args.set left c.without_least-left.result atom least
+    c.without_least-left.ensures c.if-chain_holds-2.ensures c.loop-atom.invariant
 
 pub returns : goal.returns
 returns c =
-    asked_all (sets_on c.args.self.now) c.args.set c.loop-atom.left c.in-default.ensures
-    c.if-chain-holds.ensures c.loop-atom.invariant
+    asked_all (sets_on c.args.self.now) c.args.set c.loop-atom.left c.in_default.ensures
+    c.if-chain_holds.ensures c.loop-atom.invariant
