@@ -1,14 +1,13 @@
 -- Clause lines by their places, and as lists.
-use Rattle.std.proofs.Common.{◌≡◌, ℕ, zero, suc, ◌+◌, ◌-◌, ◌*◌, ◌<◌, ◌≤◌, Bool, true, false, cond, eqb, ◌⊎◌, List, [], ◌∷◌, ◌++◌, length, get_or, take, drop, sym, refl, ap, ◌∙◌, subst, inl, inr, mul_assoc, suc-mul, mul_comm, add-mul, mul-zero, mul-suc, mul-add, arith}
+use Rattle.std.proofs.Common.{◌≡◌, ℕ, zero, suc, ◌+◌, ◌*◌, ◌<◌, ◌≤◌, List, [], ◌∷◌, ◌++◌, length, get_or, take, drop, sym, refl, ap, ◌∙◌, subst, suc-mul, add-mul, arith}
 use Rattle.std.specs.List.{flat_map, between, AllByRecursion as All}
 use Rattle.std.proofs.lemmas.List.{append_assoc, drop_at, drop-drop, take_at, get_or-drop, get_or_past, ext_get_or}
-use Rattle.std.proofs.lemmas.List.Edits.{get_or-between, length-between}
+use Rattle.std.proofs.lemmas.List.Edits.{get_or-between}
 use Rattle.std.proofs.lemmas.Nat.{mul-le}
-use Rattle.std.proofs.lemmas.Bool.{cond-true, cond-false, eq-eqb, ne_eqb}
 use Rattle.std.proofs.lemmas.Bool.Decides.{nat_tests}
 use Rattle.formats.specs.Format.{Value, clause_line, Row, BeginsRow}
 use Rattle.formats.specs.Outcomes.{NoRow}
-use Rattle.formats.specs.Places.{gap, place, RowsAt, ValueAt, RowAt, values, rows_of}
+use Rattle.formats.specs.Places.{gap, place, RowsAt, RowAt, values, rows_of}
 
 pub gap_some : (n k : ℕ) → gap n k ≡ 0 → ⊥
 gap_some n k e = grind (arith, nat_tests)

@@ -1,15 +1,14 @@
 -- The words of the line that a text begins with.
-use Rattle.std.proofs.Common.{◌≡◌, ℕ, zero, suc, ◌+◌, ◌-◌, ◌<◌, ◌≤◌, Bool, true, false, cond, eqb, ◌⊎◌, List, [], ◌∷◌, ◌++◌, length, get_or, take, drop, is_some, Some, None, Option, sym, refl, ap, ◌∙◌, subst, inl, inr, ⊎_elim, arith, MatchOption}
+use Rattle.std.proofs.Common.{◌≡◌, ℕ, zero, suc, ◌+◌, ◌-◌, ◌<◌, ◌≤◌, Bool, true, false, cond, eqb, ◌⊎◌, List, [], ◌∷◌, ◌++◌, length, get_or, drop, is_some, Some, None, Option, sym, refl, ap, ◌∙◌, subst, inl, inr, ⊎_elim, arith, MatchOption}
 use Rattle.std.specs.List.{flat_map, between, AllByRecursion as All}
 use Rattle.std.proofs.lemmas.List.Edits.{between_more}
 use Rattle.std.proofs.ByRecursion.{All-push, All-get_or}
 use Rattle.std.proofs.lemmas.List.{append-nil, append_assoc, length-append, length_push, length-drop, drop_more, drop_all, drop_at, drop-drop, take-append-drop, get_or_append_left, get_or_at, flat_map_more}
 use Rattle.std.proofs.lemmas.Slice.{between_to_end}
 use Rattle.std.proofs.lemmas.Bool.{cond-true, cond-false, eq-eqb, ne_eqb, cases_lt, both_ways}
-use Rattle.formats.specs.Format.{most-names, NameByte, Name, Names, line, Apart, Begins}
+use Rattle.formats.specs.Format.{most-names, NameByte, Name, line, Apart, Begins}
 use Rattle.formats.specs.Outcomes.{NoNames}
 use Rattle.formats.specs.Places.{FirstLine, words_from, words, WordTo, Lacks, FirstAt, WordIs}
-use Rattle.formats.specs.declared.names.NamesLine.{NamesLine}
 
 -- ---- a byte more
 
