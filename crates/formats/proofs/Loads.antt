@@ -1,6 +1,6 @@
 -- What `Layout::read` finds out, in the words of the format.
-use Rattle.std.proofs.Common.{◌≡◌, ℕ, ◌*◌, ◌≤◌, cond, eqb, List, [], ◌++◌, length, drop, sym, refl, ap, ◌∙◌, subst, arith}
-use Rattle.std.specs.List.{flat_map, AllByRecursion as All}
+use Rattle.std.proofs.Common.{◌≡◌, ℕ, ◌*◌, ◌≤◌, eqb, List, [], ◌++◌, length, drop, sym, refl, ap, ◌∙◌, subst, arith}
+use Rattle.std.specs.List.{flat_map, AllByRecursion}
 use Rattle.std.proofs.lemmas.List.{append-nil, append_assoc, drop-drop, drop_all, length-drop}
 use Rattle.std.proofs.lemmas.Bool.{cond-false, ne_eqb}
 use Rattle.formats.specs.Format.{longest, Names, Row, Apart, Content, IsSheet, render, line, clause_line}
@@ -39,7 +39,7 @@ module _ (text : List ℕ) (f : NamesLine) (l : FirstLine text f) where
     content a = record {
       names_ok = subst Names (sym names_are) l.begins.names_ok;
       apart = a;
-      rows_ok = subst (λ m. All (Row m) (rows_of f.count count (drop f.size text))) (sym named) rows-from.each;
+      rows_ok = subst (λ m. AllByRecursion (Row m) (rows_of f.count count (drop f.size text))) (sym named) rows-from.each;
     }
 
     is : text ≡ render (words text) (rows_of f.count count (drop f.size text)) ++ drop (place f.size f.count count) text

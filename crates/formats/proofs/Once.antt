@@ -1,6 +1,6 @@
 -- A text has one outcome.
-use Rattle.std.proofs.Common.{◌≡◌, ℕ, ◌+◌, ◌*◌, ◌<◌, ◌≤◌, ◌⊎◌, List, [], ◌∷◌, ◌++◌, length, drop, Some, Option, sym, refl, ap, ◌∙◌, subst, inl, inr, ⊎_elim, arith}
-use Rattle.std.specs.List.{flat_map, AllByRecursion as All}
+use Rattle.std.proofs.Common.{◌≡◌, ℕ, ◌+◌, ◌*◌, ◌≤◌, ◌⊎◌, List, [], ◌∷◌, ◌++◌, length, drop, Some, Option, sym, refl, ap, ◌∙◌, subst, inl, inr, ⊎_elim, arith}
+use Rattle.std.specs.List.{flat_map, AllByRecursion}
 use Rattle.std.proofs.lemmas.List.{append-nil, append_assoc, length-append, drop_at}
 use Rattle.formats.specs.Format.{Begins, Row, Apart, Content, IsSheet, line, clause_line, render}
 use Rattle.formats.specs.Outcomes.{NoRow, Repeated, Stopped, Refused, OneOutcome}
@@ -38,7 +38,7 @@ module _ (n : ℕ) (some : 1 ≤ n) where
       ⊎_elim (λ (z : rest ≡ []). omega (arith, ap length z, ap length e, length-append (clause_line row) more, row_size row r))
       (λ (k : NoRow n rest). k row more (record { row_ok = r; is = e })) d
 
-  rows_once : (rows rows' : List (List ℕ)) (rest rest' : List ℕ) → All (Row n) rows → All (Row n) rows' → End rest → End rest' → flat_map clause_line rows ++ rest ≡ flat_map clause_line rows' ++ rest' → (rows ≡ rows') × (rest ≡ rest')
+  rows_once : (rows rows' : List (List ℕ)) (rest rest' : List ℕ) → AllByRecursion (Row n) rows → AllByRecursion (Row n) rows' → End rest → End rest' → flat_map clause_line rows ++ rest ≡ flat_map clause_line rows' ++ rest' → (rows ≡ rows') × (rest ≡ rest')
   rows_once [] [] rest rest' a a' d d' e = (refl, e)
   rows_once [] (r ∷ rows') rest rest' a a' d d' e =
       absurd (end_not rest r (flat_map clause_line rows' ++ rest') d a'.0 (e ∙ append_assoc (clause_line r) (flat_map clause_line rows') rest'))
@@ -69,7 +69,7 @@ module _ (text : List ℕ) where
   fronts_once : (names rows names' rows' : List (List ℕ)) (rest rest' : List ℕ) → Front text names rows rest → Front text names' rows' rest' → (names ≡ names') × (rows ≡ rows') × (rest ≡ rest')
   fronts_once names rows names' rows' rest rest' f g =
       let p = one_line text _ _ names names' (front_begins names rows rest f) (front_begins names' rows' rest' g) in
-      let a : All (Row (length names)) rows' = subst (λ w. All (Row (length w)) rows') (sym p.0) g.content.rows_ok in
+      let a : AllByRecursion (Row (length names)) rows' = subst (λ w. AllByRecursion (Row (length w)) rows') (sym p.0) g.content.rows_ok in
       let d : (rest' ≡ []) ⊎ NoRow (length names) rest' = subst (λ w. (rest' ≡ []) ⊎ NoRow (length w) rest') (sym p.0) g.end in
       let q = rows_once (length names) f.content.names_ok.some rows rows' rest rest' f.content.rows_ok a f.end d p.1 in
       (p.0, q.0, q.1)

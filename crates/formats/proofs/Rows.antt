@@ -1,14 +1,13 @@
 -- Clause lines by their places, and as lists.
-use Rattle.std.proofs.Common.{◌≡◌, ℕ, zero, suc, ◌+◌, ◌-◌, ◌*◌, ◌<◌, ◌≤◌, Bool, true, false, cond, eqb, ◌⊎◌, List, [], ◌∷◌, ◌++◌, length, get_or, take, drop, sym, refl, ap, ◌∙◌, subst, inl, inr, mul_assoc, suc-mul, mul_comm, add-mul, mul-zero, mul-suc, mul-add, arith}
-use Rattle.std.specs.List.{flat_map, between, AllByRecursion as All}
+use Rattle.std.proofs.Common.{◌≡◌, ℕ, zero, suc, ◌+◌, ◌*◌, ◌<◌, ◌≤◌, List, [], ◌∷◌, ◌++◌, length, get_or, take, drop, sym, refl, ap, ◌∙◌, subst, suc-mul, add-mul, arith}
+use Rattle.std.specs.List.{flat_map, between, AllByRecursion}
 use Rattle.std.proofs.lemmas.List.{append_assoc, drop_at, drop-drop, take_at, get_or-drop, get_or_past, ext_get_or}
-use Rattle.std.proofs.lemmas.List.Edits.{get_or-between, length-between}
+use Rattle.std.proofs.lemmas.List.Edits.{get_or-between}
 use Rattle.std.proofs.lemmas.Nat.{mul-le}
-use Rattle.std.proofs.lemmas.Bool.{cond-true, cond-false, eq-eqb, ne_eqb}
 use Rattle.std.proofs.lemmas.Bool.Decides.{nat_tests}
 use Rattle.formats.specs.Format.{Value, clause_line, Row, BeginsRow}
 use Rattle.formats.specs.Outcomes.{NoRow}
-use Rattle.formats.specs.Places.{gap, place, RowsAt, ValueAt, RowAt, values, rows_of}
+use Rattle.formats.specs.Places.{gap, place, RowsAt, RowAt, values, rows_of}
 
 pub gap_some : (n k : ℕ) → gap n k ≡ 0 → ⊥
 gap_some n k e = grind (arith, nat_tests)
@@ -73,7 +72,7 @@ row_first v x t n p q r (suc k) h =
       ap (λ y. get_or (v ∷ x ∷ t) y 0) (sym f) ∙ (w.1 ∙ g),
     )
 
-pub row_places : (row rest : List ℕ) → 1 ≤ length row → All Value row → RowAt (clause_line row ++ rest) (length row) 0
+pub row_places : (row rest : List ℕ) → 1 ≤ length row → AllByRecursion Value row → RowAt (clause_line row ++ rest) (length row) 0
 row_places [] rest h a = absurd (omega arith)
 row_places (v ∷ []) rest h a = row_first v 10 rest 0 a.0 refl (λ k l. absurd (omega arith))
 row_places (v ∷ x ∷ vs) rest h a = row_first v 32 (clause_line (x ∷ vs) ++ rest) (suc (length vs)) a.0 (sym (gap_more (length vs))) (row_places (x ∷ vs) rest (omega arith) a.1)
@@ -121,7 +120,7 @@ row_is (suc n) t h r = row_made n t r ∙ ap (λ l. clause_line (values (suc n) 
 -- clause lines one after another, from place 0
 pub record Rows (n count : ℕ) (t : List ℕ) : Type 0 where
   pub is : t ≡ flat_map clause_line (rows_of n count t) ++ drop (count * (2 * n)) t
-  pub each : All (Row n) (rows_of n count t)
+  pub each : AllByRecursion (Row n) (rows_of n count t)
   pub size : length (rows_of n count t) ≡ count
 
 pub rows_made : (n count : ℕ) (t : List ℕ) → 1 ≤ n → RowsAt t n 0 count → Rows n count t
@@ -190,11 +189,11 @@ length-clause_line [] h = absurd (omega arith)
 length-clause_line (v ∷ []) h = refl
 length-clause_line (v ∷ x ∷ vs) h = omega (arith, length-clause_line (x ∷ vs) (omega arith))
 
-pub all_sized : (n count : ℕ) (t : List ℕ) → All (λ r. length r ≡ n) (rows_of n count t)
+pub all_sized : (n count : ℕ) (t : List ℕ) → AllByRecursion (λ r. length r ≡ n) (rows_of n count t)
 all_sized n zero t = tt
 all_sized n (suc count) t = (length-values n t, all_sized n count (drop (2 * n) t))
 
-pub joined_part : (n : ℕ) (rows : List (List ℕ)) (i : ℕ) → 1 ≤ n → All (λ r. length r ≡ n) rows → i < length rows → take (2 * n) (drop (i * (2 * n)) (flat_map clause_line rows)) ≡ clause_line (get_or rows i [])
+pub joined_part : (n : ℕ) (rows : List (List ℕ)) (i : ℕ) → 1 ≤ n → AllByRecursion (λ r. length r ≡ n) rows → i < length rows → take (2 * n) (drop (i * (2 * n)) (flat_map clause_line rows)) ≡ clause_line (get_or rows i [])
 joined_part n [] i h a l = absurd (omega arith)
 joined_part n (r ∷ rows) zero h a l =
     let z : 0 * (2 * n) ≡ 0 = omega arith in

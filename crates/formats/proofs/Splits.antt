@@ -1,15 +1,14 @@
 -- The words of the line that a text begins with.
-use Rattle.std.proofs.Common.{◌≡◌, ℕ, zero, suc, ◌+◌, ◌-◌, ◌<◌, ◌≤◌, Bool, true, false, cond, eqb, ◌⊎◌, List, [], ◌∷◌, ◌++◌, length, get_or, take, drop, is_some, Some, None, Option, sym, refl, ap, ◌∙◌, subst, inl, inr, ⊎_elim, arith, MatchOption}
-use Rattle.std.specs.List.{flat_map, between, AllByRecursion as All}
+use Rattle.std.proofs.Common.{◌≡◌, ℕ, zero, suc, ◌+◌, ◌-◌, ◌<◌, ◌≤◌, Bool, true, false, cond, eqb, ◌⊎◌, List, [], ◌∷◌, ◌++◌, length, get_or, drop, is_some, Some, None, Option, sym, refl, ap, ◌∙◌, subst, inl, inr, ⊎_elim, arith, MatchOption}
+use Rattle.std.specs.List.{flat_map, between, AllByRecursion}
 use Rattle.std.proofs.lemmas.List.Edits.{between_more}
 use Rattle.std.proofs.ByRecursion.{All-push, All-get_or}
 use Rattle.std.proofs.lemmas.List.{append-nil, append_assoc, length-append, length_push, length-drop, drop_more, drop_all, drop_at, drop-drop, take-append-drop, get_or_append_left, get_or_at, flat_map_more}
 use Rattle.std.proofs.lemmas.Slice.{between_to_end}
 use Rattle.std.proofs.lemmas.Bool.{cond-true, cond-false, eq-eqb, ne_eqb, cases_lt, both_ways}
-use Rattle.formats.specs.Format.{most-names, NameByte, Name, Names, line, Apart, Begins}
+use Rattle.formats.specs.Format.{most-names, NameByte, Name, line, Apart, Begins}
 use Rattle.formats.specs.Outcomes.{NoNames}
 use Rattle.formats.specs.Places.{FirstLine, words_from, words, WordTo, Lacks, FirstAt, WordIs}
-use Rattle.formats.specs.declared.names.NamesLine.{NamesLine}
 
 -- ---- a byte more
 
@@ -34,13 +33,13 @@ words_some cur (b ∷ t) = go (eqb b 10) (eqb b 32) (words_some (cur ++ b ∷ []
 
 -- ---- the words of a line of names are the names
 
-words_name : (cur w t : List ℕ) → All NameByte w → words_from cur (w ++ t) ≡ words_from (cur ++ w) t
+words_name : (cur w t : List ℕ) → AllByRecursion NameByte w → words_from cur (w ++ t) ≡ words_from (cur ++ w) t
 words_name cur [] t h = ap (λ l. words_from l t) (sym (append-nil cur))
 words_name cur (b ∷ w) t h =
     word_more cur (w ++ t) b (λ e. omega (arith, h.0)) (λ e. omega (arith, h.0))
     ∙ (words_name (cur ++ b ∷ []) w t h.1 ∙ ap (λ l. words_from l t) (append_assoc cur (b ∷ []) w))
 
-pub words-line : (ws : List (List ℕ)) (rest : List ℕ) → 1 ≤ length ws → All Name ws → words (line ws ++ rest) ≡ ws
+pub words-line : (ws : List (List ℕ)) (rest : List ℕ) → 1 ≤ length ws → AllByRecursion Name ws → words (line ws ++ rest) ≡ ws
 words-line [] rest h a = absurd (omega arith)
 words-line (w ∷ []) rest h a =
     ap words (append_assoc w (10 ∷ []) rest) ∙ (words_name [] w (10 ∷ rest) a.0.bytes ∙ word_last w rest 10 refl)
@@ -277,7 +276,7 @@ found_none None P Q h e = h
 
 pub record Naming (text : List ℕ) (p k : ℕ) : Type 0 where
   pub counted : Counted text p k
-  pub names : All Name counted.pre
+  pub names : AllByRecursion Name counted.pre
 
 pub naming_start : (text : List ℕ) → Naming text 0 0
 naming_start text = record { counted = record { pre = []; passed = passed_start text; size = refl }; names = tt }
@@ -305,7 +304,7 @@ module _ (text : List ℕ) (p k e : ℕ) (s : Naming text p k) (w : WordTo text 
   naming_wrong h names rest b =
       let q = begins_words text rest names b in
       let f = counted_word text p k e s.counted w in
-      h (subst Name (sym f.is) (All-get_or Name (words text) k [] f.within (subst (All Name) (sym q) b.names_ok.each)))
+      h (subst Name (sym f.is) (All-get_or Name (words text) k [] f.within (subst (AllByRecursion Name) (sym q) b.names_ok.each)))
 
   -- no byte 10 after the last word
   pub naming_open : e ≡ length text → NoNames text

@@ -1,6 +1,6 @@
 -- The sheet format. A text is a list of bytes, a name is a list of bytes, and a clause is the list of its values.
 use Rattle.std.specs.Prelude.{◌≡◌, ℕ, ◌<◌, ◌≤◌, ◌⊎◌, List, [], ◌∷◌, ◌++◌, length, ◌≢◌, slice_index_or}
-use Rattle.std.specs.List.{flat_map, AllByRecursion as All}
+use Rattle.std.specs.List.{flat_map, AllByRecursion}
 
 -- the most bytes of a sheet, the most names, and the most bytes of a name
 abbrev pub longest : ℕ
@@ -20,7 +20,7 @@ NameByte b = ((97 ≤ b) × (b ≤ 122)) ⊎ (((48 ≤ b) × (b ≤ 57)) ⊎ (b 
 pub record Name (w : List ℕ) : Type 0 where
   pub some : 1 ≤ length w
   pub few : length w ≤ longest_name
-  pub bytes : All NameByte w
+  pub bytes : AllByRecursion NameByte w
 
 -- a value: 'b' for body, 'h' for head, '.' for neither
 abbrev pub Value : ℕ → Type 0
@@ -42,7 +42,7 @@ clause_line (v ∷ x ∷ vs) = v ∷ 32 ∷ clause_line (x ∷ vs)
 pub record Names (names : List (List ℕ)) : Type 0 where
   pub some : 1 ≤ length names
   pub few : length names ≤ most-names
-  pub each : All Name names
+  pub each : AllByRecursion Name names
 
 -- no name stands twice
 abbrev pub Apart : List (List ℕ) → Type 0
@@ -51,13 +51,13 @@ Apart names = (i k : ℕ) → i < k → k < length names → slice_index_or name
 -- a clause: one value for each of n names, in their order
 pub record Row (n : ℕ) (row : List ℕ) : Type 0 where
   pub size : length row ≡ n
-  pub values : All Value row
+  pub values : AllByRecursion Value row
 
 -- names and clauses that a sheet may hold
 pub record Content (names rows : List (List ℕ)) : Type 0 where
   pub names_ok : Names names
   pub apart : Apart names
-  pub rows_ok : All (Row (length names)) rows
+  pub rows_ok : AllByRecursion (Row (length names)) rows
 
 -- the text of names and clauses: line 1 has the names, and each later line a clause
 abbrev pub render : List (List ℕ) → List (List ℕ) → List ℕ

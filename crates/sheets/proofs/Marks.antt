@@ -3,7 +3,7 @@ use Rattle.std.proofs.Common.{◌≡◌, ℕ, zero, suc, ◌+◌, ◌*◌, ◌/�
 use Rattle.std.proofs.lemmas.List.{get_or_past}
 use Rattle.std.proofs.lemmas.Bool.{cases_lt, cases_eq, eq-eqb, eqb-true, ne_eqb, lt-ltb, le-ltb, or_right}
 use Rattle.atoms.specs.Atoms.{bits, set_of, width}
-use Rattle.atoms.specs.Sets.{has, hasb}
+use Rattle.atoms.specs.Sets.{hasb}
 use Rattle.atoms.specs.declared.AtomSet.{AtomSet}
 use Rattle.atoms.proofs.Members.{hasb_first, hasb_next, hasb_zero, same_from_members, below-from_members}
 use Rattle.atoms.proofs.Values.{bits-set_of, value_is}
@@ -11,7 +11,7 @@ use Rattle.clauses.specs.Sources.{numbered}
 use Rattle.clauses.specs.declared.clauses.Clause.{Clause}
 use Rattle.formats.specs.Places.{values}
 use Rattle.formats.proofs.Rows.{length-values, values_at}
-use Rattle.sheets.specs.Meaning.{marked, row_clause, RowsReadOff}
+use Rattle.sheets.specs.Meaning.{marked, RowsReadOff}
 
 -- ---- the set of the places of a value
 

@@ -2,7 +2,7 @@
 use Rattle.std.proofs.Common.{◌≡◌, ℕ, zero, suc, ◌+◌, ◌-◌, ◌<◌, ◌≤◌, List, [], ◌∷◌, ◌++◌, length, get_or, drop, sym, refl, ap, ◌∙◌, subst, arith}
 use Rattle.std.specs.List.{flat_map}
 use Rattle.std.proofs.lemmas.List.{drop_all, drop_more}
-use Rattle.formats.specs.Format.{line, clause_line, render}
+use Rattle.formats.specs.Format.{line, clause_line}
 use Rattle.sheets.specs.Lines.{LineText, clause_lines, sheet_lines, left, line_bytes, LinesMakeText}
 use Rattle.sheets.specs.Lines.LineText.{names_part, clause_part}
 use Rattle.sheets.specs.Sheets.{names, rows}

@@ -1,6 +1,6 @@
 // Reading a sheet line by line.
 ghost use Rattle.std.specs.Prelude.{◌≡◌, length};
-ghost use Rattle.sheets.specs.Lines.{Step, left as linesLeft, sheet_lines};
+ghost use Rattle.sheets.specs.Lines.{Step, left as lines_left, sheet_lines};
 ghost use Rattle.sheets.specs.Sheets.{names, rows};
 ghost use Rattle.std.specs.Iterator.{at_most};
 
@@ -23,7 +23,7 @@ pub struct SheetLines<'a> {
 impl<'a> Sheet<'a> {
     // A reader of the lines, from the first.
     pub fn lines(&self) -> SheetLines<'a>
-        ensures { linesLeft result ≡ sheet_lines (names self.now) (rows self.now) }
+        ensures { lines_left result ≡ sheet_lines (names self.now) (rows self.now) }
     {
         SheetLines {
             sheet: *self,
@@ -37,7 +37,7 @@ impl<'a> Iterator for SheetLines<'a> {
 
     ghost next_gives = { Step };
 
-    ghost remaining = { λ r. at_most (length (linesLeft r)) };
+    ghost remaining = { λ r. at_most (length (lines_left r)) };
 
     fn next(&mut self) -> Option<SheetLine<'a>> {
         let read = self.read;

@@ -1,8 +1,8 @@
 // What the argument of a program asks.
 ghost use Rattle.usage.specs.Asked.{Asks};
 
-use libc::isatty;
-use std::{env, io};
+use std::env;
+use std::io::{self, IsTerminal};
 
 #[derive(Clone, Copy)]
 pub enum Asked {
@@ -25,7 +25,7 @@ impl Asked {
 // help text, and any other argument is refused.
 pub fn is_to_run(rt: &HostRuntime, help: &str) -> io::Result<bool> {
     let Some(word) = env::args(rt)?.nth(1) else {
-        if isatty(0) == 1 {
+        if rt.stdin().is_terminal() {
             let _ = eprintln!(rt; "reading from the terminal: end with Ctrl-D, or see --help");
         }
         return Ok(true);

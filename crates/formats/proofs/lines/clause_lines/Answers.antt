@@ -1,11 +1,11 @@
-use Rattle.std.proofs.Common.{◌≡◌, ℕ, ◌<◌, sym, refl, subst, arith, below_more}
+use Rattle.std.proofs.Common.{subst, arith, below_more}
 use Rattle.formats.specs.Places.{RowAt, place}
 use Rattle.formats.proofs.Rows.{place_more}
 use Rattle.formats.proofs.lines.clause_lines.Goals as goal
 
 pub loop-at-preserved : goal.loop-at-preserved
 loop-at-preserved c =
-    let e = c.in-ok-at.ensures in
+    let e = c.in_ok-at.ensures in
     let p = place_more c.args.start c.args.n c.loop-at.count in (
       omega (arith, e.0, p),
       e.1,

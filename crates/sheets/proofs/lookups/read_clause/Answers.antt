@@ -1,11 +1,11 @@
-use Rattle.std.proofs.Common.{◌≡◌, ℕ, ◌+◌, ◌*◌, ◌<◌, ◌≤◌, get_or, sym, refl, ap, ◌∙◌, subst, arith}
+use Rattle.std.proofs.Common.{◌≡◌, ℕ, ◌+◌, ◌*◌, ◌<◌, ◌≤◌, get_or, sym, subst, arith}
 use Rattle.std.proofs.lemmas.Option.{MatchOption-at_some}
 use Rattle.atoms.specs.Atoms.{bits, index, width}
 use Rattle.atoms.specs.Sets.{hasb}
 use Rattle.atoms.specs.declared.AtomSet.{AtomSet}
 use Rattle.sheets.proofs.Marks.{Added, Marked, marked_none, marked_hit, marked_miss, marked_all}
 use Rattle.sheets.proofs.lookups.read_clause.Goals as goal
-use Rattle.sheets.proofs.lookups.read_clause.Goals.{in-98, in-104, in-default}
+use Rattle.sheets.proofs.lookups.read_clause.Goals.{in-98, in-104, in_default}
 
 pub loop-k-init : goal.loop-k-init
 loop-k-init c =
@@ -30,7 +30,7 @@ loop-k-preserved c =
         subst (M 98) (sym w.body-is) (marked_miss f 98 k old_body (λ z. omega (arith, w.in-104.is)) c.loop-k.invariant.0),
         subst (M 104) (sym w.head-is) (marked_hit f 104 k old_head (hasb (bits w.with-head.result)) w.in-104.is (subst (Added (bits c.loop-k.head) (bits w.with-head.result)) e w.with-head.ensures.members) c.loop-k.invariant.1),
       )
-      | in-default w ↦ (
+      | in_default w ↦ (
         subst (M 98) (sym w.body-is) (marked_miss f 98 k old_body (λ z. omega arith) c.loop-k.invariant.0),
         subst (M 104) (sym w.head-is) (marked_miss f 104 k old_head (λ z. omega arith) c.loop-k.invariant.1),
       )

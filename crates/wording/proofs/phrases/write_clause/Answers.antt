@@ -6,5 +6,5 @@ use Rattle.wording.proofs.phrases.write_clause.Goals as goal
 pub returns : goal.returns
 returns c =
     clause_told (names c.args.sheet.now) c.args.clause.now
-    (vec_items c.args.out.now) (vec_items c.write-names.new.out) (vec_items c.extend-from-slice.new.self) (vec_items c.write-names-2.new.out)
-    c.in-ok-write-names.ensures c.in-ok-extend-from-slice.ensures.items c.in-ok-write-names-2.ensures
+    (vec_items c.args.out.now) (vec_items c.write_names.new.out) (vec_items c.extend_from_slice.new.self) (vec_items c.write_names-2.new.out)
+    c.in_ok-write_names.ensures c.in_ok-extend_from_slice.ensures.items c.in_ok-write_names-2.ensures

@@ -12,4 +12,4 @@ returns-in-Ok c =
 
 pub returns-in-Err : goal.returns-in-Err
 returns-in-Err c =
-    reported vec_items c.args.text.now (outcome_of c.in-Err.fault) c.refusal-line.result c.in-Err.ensures.0 c.refusal-line.ensures
+    reported vec_items c.args.text.now (outcome_of c.in-Err.fault) c.refusal_line.result c.in-Err.ensures.0 c.refusal_line.ensures

@@ -1,4 +1,4 @@
-use Rattle.std.proofs.Common.{◌+◌, ◌++◌, length, vec_items, ap, ◌∙◌, arith}
+use Rattle.std.proofs.Common.{◌+◌, ◌++◌, vec_items, ap, ◌∙◌, arith}
 use Rattle.std.specs.List.{flat_map}
 use Rattle.std.proofs.lemmas.List.{take_all}
 use Rattle.std.proofs.lemmas.Option.{MatchOption-at_some}
@@ -13,12 +13,12 @@ loop-i-preserved c =
     let s = c.args.sheet.now in
     let i = c.loop-i.i in
     let x = c.unwrap-clause.result in
-    let l = MatchOption-at_some (NoneOnLine (clauses s) (i + 2)) (OnLine (clauses s) (i + 2)) x c.unwrap-clause.ensures c.clause-at.ensures in
-    clauses_more (clause_text (names s)) (clauses s) i (vec_items c.args.out.now) (vec_items c.loop-i.out) (vec_items c.write-line.new.out) x
-    (omega (arith, l.last)) l.is c.loop-i.invariant c.in-ok-write-line.ensures
+    let l = MatchOption-at_some (NoneOnLine (clauses s) (i + 2)) (OnLine (clauses s) (i + 2)) x c.unwrap-clause.ensures c.clause_at.ensures in
+    clauses_more (clause_text (names s)) (clauses s) i (vec_items c.args.out.now) (vec_items c.loop-i.out) (vec_items c.write_line.new.out) x
+    (omega (arith, l.last)) l.is c.loop-i.invariant c.in_ok-write_line.ensures
 
 pub returns : goal.returns
 returns c =
     let s = c.args.sheet.now in
     c.loop-i.invariant
-    ∙ ap (λ l. vec_items c.args.out.now ++ flat_map (clause_text (names s)) l) (take_all c.loop-i.i (clauses s) (omega (arith, c.clause-count-i-end.ensures.value)))
+    ∙ ap (λ l. vec_items c.args.out.now ++ flat_map (clause_text (names s)) l) (take_all c.loop-i.i (clauses s) (omega (arith, c.clause_count-i-end.ensures.value)))

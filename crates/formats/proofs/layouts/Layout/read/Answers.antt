@@ -7,15 +7,15 @@ pub returns-then-repeats : goal.returns-then-repeats
 returns-then-repeats c =
     refused_twice c.args.text.now c.in-Some.first c.in-Some.ensures (omega arith) c.if-repeats.ensures
 
-pub returns-in-err-clauses : goal.returns-in-err-clauses
-returns-in-err-clauses c =
-    let p = err_from_is_err_and c.from-residual.result c.from-residual.ensures.1 in
+pub returns-in_err-clauses : goal.returns-in_err-clauses
+returns-in_err-clauses c =
+    let p = err_from_is_err_and c.from_residual.result c.from_residual.ensures.1 in
     rw (p.1, p.2)
-    (refused_clause c.args.text.now c.in-Some.first c.in-Some.ensures _ (omega arith) c.if-repeats.ensures c.in-err-clauses.ensures)
+    (refused_clause c.args.text.now c.in-Some.first c.in-Some.ensures _ (omega arith) c.if-repeats.ensures c.in_err-clauses.ensures)
 
 pub returns : goal.returns
 returns c =
-    let e = c.in-ok-clauses.ensures in (
-      accepted_sheet c.args.text.now c.in-Some.first c.in-Some.ensures c.in-ok-clauses.clauses e.0 (omega arith) c.if-repeats.ensures e.1,
-      lies c.args.text.now c.in-Some.first c.in-Some.ensures c.in-ok-clauses.clauses e.0 (omega arith) c.if-repeats.ensures e.1,
+    let e = c.in_ok-clauses.ensures in (
+      accepted_sheet c.args.text.now c.in-Some.first c.in-Some.ensures c.in_ok-clauses.clauses e.0 (omega arith) c.if-repeats.ensures e.1,
+      lies c.args.text.now c.in-Some.first c.in-Some.ensures c.in_ok-clauses.clauses e.0 (omega arith) c.if-repeats.ensures e.1,
     )

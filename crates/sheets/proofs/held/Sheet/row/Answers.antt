@@ -3,14 +3,14 @@ use Rattle.std.proofs.lemmas.List.Edits.{length-between}
 use Rattle.sheets.proofs.Parts.{row_place, row_within, row_values, row_part}
 use Rattle.sheets.proofs.held.Sheet.row.Goals as goal
 
-pub overflow-add-at : goal.overflow-add-at
-overflow-add-at c = omega (arith, row_within c.args.self.now c.args.i c.requires, c.args.self.now.short)
+pub overflow_add-at : goal.overflow_add-at
+overflow_add-at c = omega (arith, row_within c.args.self.now c.args.i c.requires, c.args.self.now.short)
 
-pub overflow-add-result : goal.overflow-add-result
-overflow-add-result c = omega (arith, row_within c.args.self.now c.args.i c.requires, c.args.self.now.short)
+pub overflow_add-result : goal.overflow_add-result
+overflow_add-result c = omega (arith, row_within c.args.self.now c.args.i c.requires, c.args.self.now.short)
 
-pub slice-bounds-result-end : goal.slice-bounds-result-end
-slice-bounds-result-end c = omega (arith, row_within c.args.self.now c.args.i c.requires, c.args.self.now.short)
+pub slice_bounds-result-end : goal.slice_bounds-result-end
+slice_bounds-result-end c = omega (arith, row_within c.args.self.now c.args.i c.requires, c.args.self.now.short)
 
 pub returns : goal.returns
 returns c =
