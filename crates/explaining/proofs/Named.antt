@@ -2,7 +2,7 @@
 use Rattle.std.proofs.Common.{◌≡◌, ℕ, ◌+◌, ◌<◌, ◌≤◌, Bool, ◌⊎◌, List, [], ◌∷◌, map, length, get_or, sym, refl, ◌∙◌, subst, ⊎_elim, arith}
 use mathlib.Core.List.Memᴰ
 use mathlib.Core.List.{Memᴰ}
-use Rattle.std.specs.List.{ContainsAt as Has, AllByRecursion as All}
+use Rattle.std.specs.List.{ContainsAt as Has, AllByRecursion}
 use Rattle.std.proofs.ByRecursion.{all-has, All-take}
 use Rattle.std.proofs.lemmas.List.{get_or_past}
 use Rattle.std.proofs.lemmas.Bool.{cases_lt, eqb-true}
@@ -21,11 +21,11 @@ use Rattle.explaining.specs.Firsts.{Firsts}
 
 -- ---- what holds of each element
 
-all_from : {X : Type 0} (P : X → Type 0) (xs : List X) → ((x : X) → Memᴰ x xs → P x) → All P xs
+all_from : {X : Type 0} (P : X → Type 0) (xs : List X) → ((x : X) → Memᴰ x xs → P x) → AllByRecursion P xs
 all_from P [] f = tt
 all_from P (x ∷ xs) f = (f x (Memᴰ.head refl), all_from P xs (λ y m. f y (Memᴰ.tail m)))
 
-all_unmap : {X Y : Type 0} (P : Y → Type 0) (f : X → Y) (xs : List X) → All P (map f xs) → All (λ x. P (f x)) xs
+all_unmap : {X Y : Type 0} (P : Y → Type 0) (f : X → Y) (xs : List X) → AllByRecursion P (map f xs) → AllByRecursion (λ x. P (f x)) xs
 all_unmap P f [] a = tt
 all_unmap P f (x ∷ xs) a = (a.0, all_unmap P f xs a.1)
 
@@ -41,7 +41,7 @@ module _ (n : ℕ) (few : n ≤ width) where
       (λ (l : length row ≤ a). absurd (omega (arith, v, get_or_past row a 0 l)))
       (cases_lt a (length row))
 
-  heads : (i : ℕ) (rows : List (List ℕ)) → All (Row n) rows → (c : Clause) → Memᴰ c (numbered row_clause i rows) → (a : ℕ)
+  heads : (i : ℕ) (rows : List (List ℕ)) → AllByRecursion (Row n) rows → (c : Clause) → Memᴰ c (numbered row_clause i rows) → (a : ℕ)
       → has (bits c.head) a → a < n
   heads i [] r c m a h = absurd (Memᴰ.not-nil m)
   heads i (row ∷ rows) r c m a h =
@@ -56,8 +56,8 @@ pub named : (names rows : List (List ℕ)) → Content names rows → (sets : Li
 named names rows k sets places complete f s h u =
     let n : ℕ = length names in
     let P : ℕ → Type 0 = λ m. (a : ℕ) → has m a → a < n in
-    let each : All P f.ms =
+    let each : AllByRecursion P f.ms =
     all_from P f.ms (λ m i. minimal_below laws (row_clauses rows) n (heads n k.names_ok.few 0 rows k.rows_ok) m (f.explanations.only m i)) in
-    let out : All P (map bits sets) = subst (All P) (sym f.out_is) (All-take P places f.ms each) in
+    let out : AllByRecursion P (map bits sets) = subst (AllByRecursion P) (sym f.out_is) (All-take P places f.ms each) in
     let here : P (bits s) = all-has (λ (x : AtomSet). P (bits x)) sets s (all_unmap P bits sets out) h in
     omega (arith, here u.0 u.1, u.2)

@@ -1,6 +1,6 @@
 -- How long a report can get.
 use Rattle.std.proofs.Common.{ℕ, ◌+◌, ◌*◌, ◌≤◌, Bool, true, false, List, [], ◌∷◌, length, arith, length-append}
-use Rattle.std.specs.List.{AllByRecursion as All}
+use Rattle.std.specs.List.{AllByRecursion}
 use Rattle.std.proofs.lemmas.Nat.{mul-le}
 use Rattle.atoms.specs.declared.AtomSet.{AtomSet}
 use Rattle.formats.specs.Format.{Name, Names, line}
@@ -14,7 +14,7 @@ abbrev pub longest_report : ℕ
 longest_report = 33861
 
 -- a name has at most 16 bytes, and one byte stands after it
-length-line : (ws : List (List ℕ)) → 1 ≤ length ws → All Name ws → length (line ws) ≤ 17 * length ws
+length-line : (ws : List (List ℕ)) → 1 ≤ length ws → AllByRecursion Name ws → length (line ws) ≤ 17 * length ws
 length-line [] h a = absurd (omega arith)
 length-line (w ∷ []) h a = omega (arith, length-append w (10 ∷ []), a.0.few)
 length-line (w ∷ x ∷ ws) h a =

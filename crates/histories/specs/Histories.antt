@@ -1,6 +1,6 @@
 -- The law over whole runs, in the words of the subject. A history is a list of entries, each a call with its answer.
 use Rattle.std.specs.Prelude.{◌≡◌, ℕ, ◌<◌, ◌≤◌, Bool, List, [], ◌∷◌, ◌++◌, length, take, ◌≢◌, slice_index}
-use Rattle.std.specs.List.{AllByRecursion as All}
+use Rattle.std.specs.List.{AllByRecursion}
 use Rattle.atoms.specs.Atoms.{bits}
 use Rattle.atoms.specs.declared.AtomSet.{AtomSet}
 use Rattle.models.specs.Models.{Explanations, Model}
@@ -50,7 +50,7 @@ standing h = standing_from [] h
 
 -- the entries are requests
 abbrev pub Requests : List Entry → Type 0
-Requests es = All (λ e. e.call ≡ Request) es
+Requests es = AllByRecursion (λ e. e.call ≡ Request) es
 
 -- a listing of h, from its opening, which comes after `before`, up to any point: `during` are the requests until then
 pub record Listed (h before during rest : List Entry) : Type 0 where

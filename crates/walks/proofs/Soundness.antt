@@ -2,7 +2,7 @@
 use Rattle.std.proofs.Common.{◌≡◌, ℕ, zero, suc, ◌<◌, Bool, true, false, eqb, ◌⊎◌, List, [], ◌∷◌, ◌++◌, map, get_or, Some, None, sym, refl, ap, ◌∙◌, subst, inl, inr, arith}
 use mathlib.Core.List.{Memᴰ}
 use Rattle.std.proofs.lemmas.Bool.{both_ways, cases_Bool, ne_eqb}
-use Rattle.std.specs.List.{AllByRecursion as All}
+use Rattle.std.specs.List.{AllByRecursion}
 use Rattle.atoms.specs.Atoms.{bits}
 use Rattle.atoms.specs.Sets.{hasb, ◌⊆◌, Disjoint, union, insert, remove}
 use Rattle.atoms.specs.declared.AtomSet.{AtomSet}
@@ -30,7 +30,7 @@ use Rattle.walks.specs.declared.branches.Node.{Node}
 use Rattle.walks.proofs.Presents.{present_row}
 
 abbrev pub Alive : List Branch → Type 0
-Alive st = All (λ b. 0 < bits b.left) st
+Alive st = AllByRecursion (λ b. 0 < bits b.left) st
 
 pub alive_from : (bs : List Branch) (d : ℕ) → Live bs d → Alive (stacked bs d blank)
 alive_from bs zero live = tt

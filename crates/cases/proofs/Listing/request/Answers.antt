@@ -30,8 +30,8 @@ returns-then-len-self g c =
     }
 
 -- there is no more
-pub returns-in-default : goal.returns-in-default
-returns-in-default g c =
+pub returns-in_default : goal.returns-in_default
+returns-in_default g c =
     let cs = clauses_of g.S.Source.clauses c.args.self.now in
     let ts = g.H.Shelf.sets c.args.shelf.now in
     record {
@@ -46,8 +46,8 @@ returns-in-default g c =
       right = λ ne. absurd (ne (sym c.len.ensures.value ∙ c.if-len-self.false));
       unmoved = λ e. let z : ◌≡◌ {A = ℕ} 0 1 = cc in absurd (omega arith);
       fresh = tt;
-      sound = λ v. record { counted = v.counted; stands = (c.in-default.ensures.reached v.stands).0 };
-      answer = λ v ms e. none_left cs ts (c.in-default.ensures.reached v.stands).1 ms e;
+      sound = λ v. record { counted = v.counted; stands = (c.in_default.ensures.reached v.stands).0 };
+      answer = λ v ms e. none_left cs ts (c.in_default.ensures.reached v.stands).1 ms e;
     }
 
 -- the next is on the shelf

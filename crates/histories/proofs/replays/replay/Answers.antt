@@ -15,7 +15,7 @@ returns g c =
     let h = take r.result.1 r.new.entries in
     let l = r.ensures.lawful in
     record {
-      source = c.into-source.ensures ∙ r.ensures.source;
+      source = c.into_source.ensures ∙ r.ensures.source;
       room = r.ensures.room;
       lender = r.ensures.lender;
       within = r.ensures.within;

@@ -9,7 +9,7 @@ use Rattle.histories.proofs.standings.case_after.Goals as goal
 pub loop-made-preserved : goal.loop-made-preserved
 loop-made-preserved g c =
     let l = c.loop-made in
-    let q = c.make-again in (
+    let q = c.make_again in (
       λ cs places later law.
           stands_on cs places c.args.history.now later law l.made-index c.loop-made-test.true c.made-item.result c.made-item.is
           (standing (resting l.case)) (standing (resting q.new.case)) (l.invariant.0 cs places later law) q.ensures.standing,

@@ -22,24 +22,20 @@ listed c = let w = c.args.self.now in omega (arith, w.long, room w c.args.branch
 pub bounds-self-self : goal.bounds-self-self
 bounds-self-self c = room c.args.self.now c.args.branch c.requires.live c.requires.sized c.requires.apart
 
-pub invariant-of-self : goal.invariant-of-self
-invariant-of-self c =
+pub invariant_of-self : goal.invariant_of-self
+invariant_of-self c =
     let w = c.args.self.now in
     let b = c.args.branch in
     let few = room w b c.requires.live c.requires.sized c.requires.apart in
-    let in' : w.depth < length w.branches = omega (arith, w.long, few) in (
-      length-set w.branches w.depth b ∙ w.long,
-      (
-        omega (arith, few),
-        (
-          each_push w.branches blank (λ k x. 0 < bits x.left) w.depth b in' w.live c.requires.live,
-          (
-            each_push w.branches blank (λ k x. size (bits x.taken) ≡ k) w.depth b in' w.sized c.requires.sized,
-            (each_push w.branches blank (λ k x. meet (bits x.taken) (bits x.left) ≡ 0) w.depth b in' w.apart (meet-from_disjoint (bits b.taken) (bits b.left) c.requires.apart), tt),
-          ),
-        ),
-      ),
-    )
+    let in' : w.depth < length w.branches = omega (arith, w.long, few) in
+    record {
+      long = length-set w.branches w.depth b ∙ w.long;
+      shallow = omega (arith, few);
+      live = each_push w.branches blank (λ k x. 0 < bits x.left) w.depth b in' w.live c.requires.live;
+      sized = each_push w.branches blank (λ k x. size (bits x.taken) ≡ k) w.depth b in' w.sized c.requires.sized;
+      apart = each_push w.branches blank (λ k x. meet (bits x.taken) (bits x.left) ≡ 0) w.depth b in' w.apart
+          (meet-from_disjoint (bits b.taken) (bits b.left) c.requires.apart);
+    }
 
 pub returns : goal.returns
 returns c =

@@ -29,8 +29,8 @@ returns-in-Request-call g c =
       lender = search rules;
       right =
           λ p ag. request_right f (h.room c.args.shelf.now) c.args.self c.args.call ts p ag c.in-Listed.listing c.in-Listed.is c.in-Request-call.is
-          r.new.self (h.sets r.new.shelf) r.result c.to-request-answer.result c.to-request-answer.ensures r.ensures.answer;
+          r.new.self (h.sets r.new.shelf) r.result c.to_request-answer.result c.to_request-answer.ensures r.ensures.answer;
       agrees =
           λ p ag. request_agrees f (h.room c.args.shelf.now) c.args.self c.args.call ts p ag c.in-Listed.listing c.in-Listed.is c.in-Request-call.is
-          r.new.self (h.sets r.new.shelf) r.result c.to-request-answer.result c.to-request-answer.ensures r.ensures.standing r.ensures.below r.ensures.kept r.ensures.sound;
+          r.new.self (h.sets r.new.shelf) r.result c.to_request-answer.result c.to_request-answer.ensures r.ensures.standing r.ensures.below r.ensures.kept r.ensures.sound;
     }

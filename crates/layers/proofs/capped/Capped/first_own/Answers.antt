@@ -23,27 +23,27 @@ at_held m s e = ap (λ o. first_broken language (cap_clauses o) s) (sym e)
 pub returns-in-Some : goal.returns-in-Some
 returns-in-Some g c =
     let a = c.in-Some.atom in
-    let m = c.in-ok-cap.«cap» in
+    let m = c.in_ok-cap.«cap» in
     let s = bits c.args.set in
     ap Some (c.denial.ensures ∙ ap (λ (n : ℕ). denial (index a) (cap_origin n)) c.number.ensures.value)
     ∙ sym (cap_outside m s (index a) (index_below a) (subst (λ (s : ℕ). Least s (index a)) c.difference.ensures.value c.in-Some.ensures.0))
-    ∙ at_held m s c.in-ok-cap.was
+    ∙ at_held m s c.in_ok-cap.was
 
-pub returns-then-is-broken-by : goal.returns-then-is-broken-by
-returns-then-is-broken-by g c =
-    let m = c.in-ok-cap.«cap» in
+pub returns-then-is_broken_by : goal.returns-then-is_broken_by
+returns-then-is_broken_by g c =
+    let m = c.in_ok-cap.«cap» in
     let s = bits c.args.set in
     let is = whole_is m c.empty.result c.empty.ensures.value in
     ap Some is
-    ∙ sym (cond-true (breaks language s (whole m)) (Some (whole m)) None (ap (breaks language s) (sym is) ∙ decided true s _ c.if-is-broken-by.ensures))
-    ∙ sym (cap_whole m s (sym c.difference.ensures.value ∙ c.in-default.ensures))
-    ∙ at_held m s c.in-ok-cap.was
+    ∙ sym (cond-true (breaks language s (whole m)) (Some (whole m)) None (ap (breaks language s) (sym is) ∙ decided true s _ c.if-is_broken_by.ensures))
+    ∙ sym (cap_whole m s (sym c.difference.ensures.value ∙ c.in_default.ensures))
+    ∙ at_held m s c.in_ok-cap.was
 
-pub returns-else-is-broken-by : goal.returns-else-is-broken-by
-returns-else-is-broken-by g c =
-    let m = c.in-ok-cap.«cap» in
+pub returns-else-is_broken_by : goal.returns-else-is_broken_by
+returns-else-is_broken_by g c =
+    let m = c.in_ok-cap.«cap» in
     let s = bits c.args.set in
     let is = whole_is m c.empty.result c.empty.ensures.value in
-    sym (cond-false (breaks language s (whole m)) (Some (whole m)) None (ap (breaks language s) (sym is) ∙ decided false s _ c.if-is-broken-by.ensures))
-    ∙ sym (cap_whole m s (sym c.difference.ensures.value ∙ c.in-default.ensures))
-    ∙ at_held m s c.in-ok-cap.was
+    sym (cond-false (breaks language s (whole m)) (Some (whole m)) None (ap (breaks language s) (sym is) ∙ decided false s _ c.if-is_broken_by.ensures))
+    ∙ sym (cap_whole m s (sym c.difference.ensures.value ∙ c.in_default.ensures))
+    ∙ at_held m s c.in_ok-cap.was

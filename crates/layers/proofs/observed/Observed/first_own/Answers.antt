@@ -22,11 +22,11 @@ loop-i-preserved g c =
     sym (numbered_later clause_of (bits c.args.set) (standing s) [] i o
     (subst (λ xs. i < length xs) is c.loop-i-test.true) (subst (λ xs. o ≡ get_or xs i o) is c.observation-item.is)
     (ap (breaks language (bits c.args.set)) (sym c.clause-clause.ensures)
-    ∙ decided false (bits c.args.set) c.clause-clause.result c.if-is-broken-by.ensures))
+    ∙ decided false (bits c.args.set) c.clause-clause.result c.if-is_broken_by.ensures))
     ∙ c.loop-i.invariant
 
-pub returns-then-is-broken-by : goal.returns-then-is-broken-by
-returns-then-is-broken-by g c =
+pub returns-then-is_broken_by : goal.returns-then-is_broken_by
+returns-then-is_broken_by g c =
     let s = c.args.self.now in
     let o = c.observation-item.result in
     let i = c.loop-i.i in
@@ -35,7 +35,7 @@ returns-then-is-broken-by g c =
     ∙ sym (numbered_here clause_of (bits c.args.set) (standing s) [] i o
     (subst (λ xs. i < length xs) is c.loop-i-test.true) (subst (λ xs. o ≡ get_or xs i o) is c.observation-item.is)
     (ap (breaks language (bits c.args.set)) (sym c.clause-clause.ensures)
-    ∙ decided true (bits c.args.set) c.clause-clause.result c.if-is-broken-by.ensures))
+    ∙ decided true (bits c.args.set) c.clause-clause.result c.if-is_broken_by.ensures))
     ∙ c.loop-i.invariant
 
 pub returns : goal.returns

@@ -23,59 +23,56 @@ room : {S : Type 0} (s : Observed S) (a : ℕ) (after : AtomSet) → seen (stand
     → bits after ≡ insert (bits s.observed) a → s.count < width
 room s a after new e = omega (arith, counted s a after new e, size_at_most after)
 
-pub offset-bounds-self-self : goal.offset-bounds-self-self
-offset-bounds-self-self g c =
+pub offset_bounds-self-self : goal.offset_bounds-self-self
+offset_bounds-self-self g c =
     let place : c.args.self.now.count < width =
     room c.args.self.now (index c.args.observation.atom) c.with-observed.result
-    (sym c.if-is-observed.ensures) c.with-observed.ensures.value in
+    (sym c.if-is_observed.ensures) c.with-observed.ensures.value in
     search rules
 
 pub listed : goal.listed
 listed g c =
     let place : c.args.self.now.count < width =
     room c.args.self.now (index c.args.observation.atom) c.with-observed.result
-    (sym c.if-is-observed.ensures) c.with-observed.ensures.value in
+    (sym c.if-is_observed.ensures) c.with-observed.ensures.value in
     omega (arith, c.args.self.now.long)
 
 pub bounds-self-self : goal.bounds-self-self
 bounds-self-self g c =
     room c.args.self.now (index c.args.observation.atom) c.with-observed.result
-    (sym c.if-is-observed.ensures) c.with-observed.ensures.value
+    (sym c.if-is_observed.ensures) c.with-observed.ensures.value
 
-pub overflow-add-self : goal.overflow-add-self
-overflow-add-self g c =
+pub overflow_add-self : goal.overflow_add-self
+overflow_add-self g c =
     let place : c.args.self.now.count < width =
     room c.args.self.now (index c.args.observation.atom) c.with-observed.result
-    (sym c.if-is-observed.ensures) c.with-observed.ensures.value in
+    (sym c.if-is_observed.ensures) c.with-observed.ensures.value in
     search rules
 
-pub invariant-of-self : goal.invariant-of-self
-invariant-of-self g c =
+pub invariant_of-self : goal.invariant_of-self
+invariant_of-self g c =
     let s = c.args.self.now in
     let o = c.args.observation in
     let place : s.count < width =
     room c.args.self.now (index c.args.observation.atom) c.with-observed.result
-    (sym c.if-is-observed.ensures) c.with-observed.ensures.value in
-    let within : s.count < length s.observations = omega (arith, s.long) in (
-      length-set s.observations s.count o ∙ s.long,
-      (
-        counted s (index o.atom) c.with-observed.result (sym c.if-is-observed.ensures) c.with-observed.ensures.value,
-        (
+    (sym c.if-is_observed.ensures) c.with-observed.ensures.value in
+    let within : s.count < length s.observations = omega (arith, s.long) in
+    record {
+      long = length-set s.observations s.count o ∙ s.long;
+      distinct = counted s (index o.atom) c.with-observed.result (sym c.if-is_observed.ensures) c.with-observed.ensures.value;
+      members =
           c.with-observed.ensures.value ∙ ap (λ x. insert x (index o.atom)) s.members
-              ∙ sym (atoms_push (standing s) o) ∙ ap atoms_of (sym (take_more_set s.observations s.count o within)),
-          tt,
-        ),
-      ),
-    )
+          ∙ sym (atoms_push (standing s) o) ∙ ap atoms_of (sym (take_more_set s.observations s.count o within));
+    }
 
 pub returns : goal.returns
 returns g c =
     let s = c.args.self.now in
     let place : s.count < width =
     room c.args.self.now (index c.args.observation.atom) c.with-observed.result
-    (sym c.if-is-observed.ensures) c.with-observed.ensures.value in
+    (sym c.if-is_observed.ensures) c.with-observed.ensures.value in
     record {
-      verdict = ap not c.if-is-observed.ensures;
+      verdict = ap not c.if-is_observed.ensures;
       standing = take_more_set s.observations s.count c.args.observation (omega (arith, s.long));
       below = refl;
       unchanged = λ e. absurd (true≢false e);

@@ -32,8 +32,8 @@ left s d some after e =
     let members : bits after ≡ atoms_of front = e ∙ ap (λ x. remove x (index o.atom)) before ∙ atoms_pop front o distinct in
     (ap size members ∙ distinct_pop front o distinct ∙ long, members)
 
-pub offset-bounds-self-self : goal.offset-bounds-self-self
-offset-bounds-self-self g c =
+pub offset_bounds-self-self : goal.offset_bounds-self-self
+offset_bounds-self-self g c =
     let few : c.args.self.now.count ≤ width = omega (arith, c.args.self.now.distinct, size_at_most c.args.self.now.observed) in
     search rules
 
@@ -43,11 +43,11 @@ listed g c = omega (arith, fits c.args.self.now)
 pub bounds-self-self : goal.bounds-self-self
 bounds-self-self g c = omega (arith, c.args.self.now.long, fits c.args.self.now)
 
-pub invariant-of-self : goal.invariant-of-self
-invariant-of-self g c =
+pub invariant_of-self : goal.invariant_of-self
+invariant_of-self g c =
     let s = c.args.self.now in
     let l = left s c.index-self-self.result c.if-self-eq0.false c.without-self.result c.without-self.ensures.value in
-    (s.long, (l.0, (l.1, tt)))
+    record { long = s.long; distinct = l.0; members = l.1 }
 
 pub returns : goal.returns
 returns g c =

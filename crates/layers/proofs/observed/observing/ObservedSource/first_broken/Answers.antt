@@ -13,5 +13,5 @@ returns-in-Some g c =
 pub returns-in-None : goal.returns-in-None
 returns-in-None g c =
     let s = c.args.self.now in
-    c.first-broken.ensures
+    c.first_broken.ensures
     ∙ sym (front_none (clauses_of (standing s)) (g.S.Source.clauses (below s)) (bits c.args.set) (sym c.in-None.ensures))
