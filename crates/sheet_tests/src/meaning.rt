@@ -81,11 +81,15 @@ fn the_reader_hands_out_each_line(rt: HostRuntime) -> Result<(), Fail> {
     assert_eq!(rt; sheet.load(b"a b\nb h\n"), Ok(()));
     let mut lines = sheet.lines();
     match lines.next() {
-        Some(SheetLine::Names { text, number }) => assert!(rt; text == b"a b\n" && number == 1),
+        Some(SheetLine::Names { text, number }) => assert!(rt;
+            text == b"a b\n".as_slice() && number == 1
+        ),
         _ => return Err(Fail::new("the names line comes first")),
     }
     match lines.next() {
-        Some(SheetLine::Clause { text, number }) => assert!(rt; text == b"b h\n" && number == 2),
+        Some(SheetLine::Clause { text, number }) => assert!(rt;
+            text == b"b h\n".as_slice() && number == 2
+        ),
         _ => return Err(Fail::new("the clause line comes next")),
     }
     assert!(rt; lines.next().is_none());
