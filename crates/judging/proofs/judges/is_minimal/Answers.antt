@@ -14,9 +14,9 @@ returns g c =
     let f = g.S.Source.clauses in
     let set = c.args.set in
     let cs = standing_clauses f c.args.case.now in
-    let under = capped_clauses (λ s. observed_clauses f s.now) c.set-cap.new.self in
-    let below = ap (λ s. observed_clauses f s.now) (c.set-cap.ensures.below ∙ c.new-capped.ensures.below) ∙ ap (observed_clauses f) c.observed.ensures in
-    minimal_searched set cs under (subst (λ (ds : List Clause). Caps set ds under) below c.set-cap.ensures.models)
-    (c.is-model.ensures.0 c.if-not-is-model.false)
-    (items c.new-shelf.result) c.next.result c.is-none.result c.new-walk.result c.next.new.self c.new-shelf.ensures.empty
-    c.is-none.ensures c.next.ensures.fresh (c.new-walk.ensures under) c.next.ensures.reached
+    let under = capped_clauses (λ s. observed_clauses f s.now) c.set_cap.new.self in
+    let below = ap (λ s. observed_clauses f s.now) (c.set_cap.ensures.below ∙ c.new-capped.ensures.below) ∙ ap (observed_clauses f) c.observed.ensures in
+    minimal_searched set cs under (subst (λ (ds : List Clause). Caps set ds under) below c.set_cap.ensures.models)
+    (c.is_model.ensures.0 c.if-not-is_model.false)
+    (items c.new-shelf.result) c.next.result c.is_none.result c.new-walk.result c.next.new.self c.new-shelf.ensures.empty
+    c.is_none.ensures c.next.ensures.fresh (c.new-walk.ensures under) c.next.ensures.reached

@@ -8,5 +8,5 @@ pub returns : goal.returns
 returns g c =
     let f = g.S.Source.clauses in
     let s = bits c.args.set in
-    model_decided (standing_clauses f c.args.case.now) s c.first-broken.result c.is-none.result
-    (c.first-broken.ensures ∙ asked f c.observed.result.now c.args.case.now s s c.observed.ensures refl) c.is-none.ensures
+    model_decided (standing_clauses f c.args.case.now) s c.first_broken.result c.is_none.result
+    (c.first_broken.ensures ∙ asked f c.observed.result.now c.args.case.now s s c.observed.ensures refl) c.is_none.ensures

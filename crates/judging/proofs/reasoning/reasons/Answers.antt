@@ -5,12 +5,12 @@ use Rattle.judging.specs.Standing.{standing_clauses}
 use Rattle.judging.proofs.reasoning.reasons.Goals as goal
 
 -- an atom has no reason, as never in a minimal model
-pub returns-then-not-each-has-reason : goal.returns-then-not-each-has-reason
-returns-then-not-each-has-reason g c =
+pub returns-then-not-each_has_reason : goal.returns-then-not-each_has_reason
+returns-then-not-each_has_reason g c =
     let cs = standing_clauses g.S.Source.clauses c.args.case.now in
     let s = bits c.args.set in
-    let lacks = c.if-not-each-has-reason.ensures in
+    let lacks = c.if-not-each_has_reason.ensures in
     record {
-      answer = ((c.is-model.ensures.0 c.if-not-is-model.false, lacks), refl);
+      answer = ((c.is_model.ensures.0 c.if-not-is_model.false, lacks), refl);
       minimal = λ m. lacks.2 (reasons_minimal cs s m lacks.0 lacks.1);
     }
