@@ -7,7 +7,7 @@ scratch=$(mktemp -d)
 trap 'rm -rf "$scratch"' EXIT
 mkdir "$scratch/crates" "$scratch/crates/misuse" "$scratch/crates/misuse/src"
 for crate in atoms models clauses lists shelves layers walks cases; do
-    cp -r "$root/crates/$crate" "$scratch/crates/"
+    tar -C "$root/crates" --exclude=out -cf - "$crate" | tar -C "$scratch/crates" -xf -
     grep -E "^$crate:" "$root/crates.txt" >>"$scratch/crates.txt"
 done
 echo 'misuse: atoms clauses shelves cases' >>"$scratch/crates.txt"
@@ -17,7 +17,7 @@ for file in "$root"/checks/misuses/*; do
     name=$(basename "$file")
     wanted=$(sed -n '1s,^// expect: ,,p' "$file")
     cp "$file" crates/misuse/src/main.rt
-    if rt dev misuse >said 2>&1; then found=proved; else found=$(grep -o 'error\[[a-z0-9-]*\]' said | head -n 1); fi
+    if (cd crates/misuse && rt check) >said 2>&1; then found=proved; else found=$(grep -o 'error\[[a-z0-9-]*\]' said | head -n 1); fi
     if [ "$found" = "$wanted" ]; then
         echo "misuse $name: $found, as it must be"
     else
