@@ -3,6 +3,7 @@ ghost use Rattle.usage.specs.Asked.{Asks};
 
 use std::env;
 use std::io::{self, IsTerminal};
+use std::process::ExitCode;
 
 #[derive(Clone, Copy)]
 pub enum Asked {
@@ -39,5 +40,16 @@ pub fn is_to_run(rt: &HostRuntime, help: &str) -> io::Result<bool> {
             eprintln!(rt; "there is no argument {word}: see --help")?;
             Err(io::Error::from(io::ErrorKind::InvalidInput))
         }
+    }
+}
+
+// The status that a program ends with before it runs, where its argument says so. `is_to_run` has told of a refused argument
+// already, so that nothing more is printed for it.
+pub fn early_status(rt: &HostRuntime, help: &str) -> io::Result<Option<ExitCode>> {
+    match is_to_run(rt, help) {
+        Ok(true) => Ok(None),
+        Ok(false) => Ok(Some(ExitCode::SUCCESS)),
+        Err(error) if error.kind() == io::ErrorKind::InvalidInput => Ok(Some(ExitCode::FAILURE)),
+        Err(error) => Err(error),
     }
 }
