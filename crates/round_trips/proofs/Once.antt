@@ -1,9 +1,9 @@
 -- The round trips have one reply.
-use Rattle.std.proofs.Common.{◌≡◌, ℕ, zero, suc, List, ◌++◌, length, drop, Some, None, Ok, Err, Option, sym, refl, ap, ◌∙◌, arith}
+use Rattle.std.proofs.Common.{◌≡◌, ℕ, zero, suc, List, ◌++◌, length, drop, Some, None, Ok, Err, sym, refl, ap, ◌∙◌, arith}
 use Rattle.clauses.specs.declared.clauses.Clause.{Clause}
 use Rattle.formats.specs.Format.{IsSheet}
 use Rattle.formats.specs.Outcomes.Outcome.{accepted, refused}
-use Rattle.formats.specs.Outcomes.{Outcome, Says, line_of, number_of, outcome_of}
+use Rattle.formats.specs.Outcomes.{Outcome, Says, outcome_of}
 use Rattle.formats.specs.declared.faults.SheetFault.{SheetFault}
 use Rattle.formats.specs.declared.faults.SheetFault.TheVariants.{Long, Names, Twice, Clause as Line}
 use Rattle.formats.proofs.Once.{one_outcome}

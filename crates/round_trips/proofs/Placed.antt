@@ -1,5 +1,5 @@
 -- Places that are filled with clauses, one after another.
-use Rattle.std.proofs.Common.{◌≡◌, ℕ, ◌+◌, ◌-◌, ◌<◌, ◌≤◌, List, [], ◌∷◌, ◌++◌, length, get_or, take, drop, set, Some, Option, sym, ap, ◌∙◌, arith, MatchOption}
+use Rattle.std.proofs.Common.{◌≡◌, ℕ, ◌+◌, ◌-◌, ◌<◌, List, [], ◌∷◌, ◌++◌, length, get_or, take, drop, set, Some, Option, sym, ap, ◌∙◌, arith, MatchOption}
 use Rattle.std.proofs.lemmas.List.{append_assoc, drop_more, length-take-le, set_at, take_all, take_more}
 use Rattle.std.proofs.lemmas.Option.{MatchOption-at_some}
 use Rattle.clauses.specs.declared.clauses.Clause.{Clause}

@@ -1,12 +1,12 @@
 -- Clauses and their rows, one from the other.
-use Rattle.std.proofs.Common.{◌≡◌, ℕ, ◌+◌, ◌<◌, ◌≤◌, Bool, true, false, cond, eqb, ◌⊎◌, List, [], ◌∷◌, map, length, get_or, sym, refl, ap, ◌∙◌, subst, inl, inr, ⊎_elim, arith}
-use Rattle.std.specs.List.{range_with_len, ContainsAt as Has, AllByRecursion as All}
+use Rattle.std.proofs.Common.{◌≡◌, ℕ, ◌+◌, ◌<◌, ◌≤◌, Bool, true, false, cond, eqb, List, [], ◌∷◌, map, get_or, sym, refl, ap, ◌∙◌, subst, inl, inr, ⊎_elim, arith}
+use Rattle.std.specs.List.{range_with_len, ContainsAt as Has, AllByRecursion}
 use Rattle.std.proofs.lemmas.List.FromFn.{get_or-map-range_with_len, length-map-range_with_len}
 use Rattle.std.proofs.ByRecursion.{All-from_get_or, All-get_or, all_has_itself, All-map, All-weaker}
 use Rattle.std.proofs.lemmas.List.{ext_get_or, get_or_past}
 use Rattle.std.proofs.lemmas.Bool.{cases_lt, cond_both, eqb-true}
 use Rattle.atoms.specs.Atoms.{bits, set_of, width}
-use Rattle.atoms.specs.Sets.{has, hasb}
+use Rattle.atoms.specs.Sets.{hasb}
 use Rattle.atoms.specs.declared.AtomSet.{AtomSet}
 use Rattle.atoms.proofs.Members.{lacks, same_from_members}
 use Rattle.atoms.proofs.Values.{same_value}
@@ -63,12 +63,12 @@ module _ (n : ℕ) (few : n ≤ width) where
     fits (in_head u) = omega (arith, u.2, value_within u.0 104 (λ z. omega arith) (sym (read_off.head u.0) ∙ u.1))
     fits (in_both k b h) = omega (arith, eqb-true (get_or row k 0) 98 (sym (read_off.body k) ∙ b), eqb-true (get_or row k 0) 104 (sym (read_off.head k) ∙ h))
 
-  pub rows_back : (i : ℕ) (rows : List (List ℕ)) → All (Row n) rows → map (row_of n) (numbered row_clause i rows) ≡ rows
+  pub rows_back : (i : ℕ) (rows : List (List ℕ)) → AllByRecursion (Row n) rows → map (row_of n) (numbered row_clause i rows) ≡ rows
   rows_back i [] a = refl
   rows_back i (r ∷ rs) a =
       ap (λ x. x ∷ map (row_of n) (numbered row_clause (i + 1) rs)) (row_back i r a.0) ∙ ap (λ l. r ∷ l) (rows_back (i + 1) rs a.1)
 
-  pub rows_fit : (i : ℕ) (rows : List (List ℕ)) → All (Row n) rows → All (λ c. Misfit n c → ⊥) (numbered row_clause i rows)
+  pub rows_fit : (i : ℕ) (rows : List (List ℕ)) → AllByRecursion (Row n) rows → AllByRecursion (λ c. Misfit n c → ⊥) (numbered row_clause i rows)
   rows_fit i [] a = tt
   rows_fit i (r ∷ rs) a = (fits i r a.0, rows_fit (i + 1) rs a.1)
 
@@ -85,7 +85,7 @@ row_ok n c = record {
   values = All-map Value (value_of c) (range_with_len 0 n) (All-from_get_or (λ k. Value (value_of c k)) (range_with_len 0 n) 0 (λ i h. value_of_lem c (get_or (range_with_len 0 n) i 0)));
 }
 
-pub rows_ok : (n : ℕ) (cs : List Clause) → All (Row n) (map (row_of n) cs)
+pub rows_ok : (n : ℕ) (cs : List Clause) → AllByRecursion (Row n) (map (row_of n) cs)
 rows_ok n [] = tt
 rows_ok n (c ∷ cs) = (row_ok n c, rows_ok n cs)
 
@@ -130,11 +130,11 @@ module _ (n : ℕ) (few : n ≤ width) where
         ap (λ (s : AtomSet). let d : Clause = record { body = s; head = set_of (marked 104 (row_of n c)); origin = record { kind = Sheet; number = i + 2 } } in d) body_back
         ∙ ap (λ (s : AtomSet). let d : Clause = record { body = c.body; head = s; origin = record { kind = Sheet; number = i + 2 } } in d) head_back
 
-  pub clauses_back : (i : ℕ) (cs : List Clause) → All (λ c. Misfit n c → ⊥) cs → numbered row_clause i (map (row_of n) cs) ≡ numbered on_line i cs
+  pub clauses_back : (i : ℕ) (cs : List Clause) → AllByRecursion (λ c. Misfit n c → ⊥) cs → numbered row_clause i (map (row_of n) cs) ≡ numbered on_line i cs
   clauses_back i [] a = refl
   clauses_back i (c ∷ cs) a =
       ap (λ d. d ∷ numbered row_clause (i + 1) (map (row_of n) cs)) (clause_back i c a.0) ∙ ap (λ l. on_line i c ∷ l) (clauses_back (i + 1) cs a.1)
 
 -- none among them is so, and so each is not
-pub each_not : {X : Type 0} (P : X → Type 0) (xs : List X) → (Among P xs → ⊥) → All (λ x. P x → ⊥) xs
+pub each_not : {X : Type 0} (P : X → Type 0) (xs : List X) → (Among P xs → ⊥) → AllByRecursion (λ x. P x → ⊥) xs
 each_not P xs n = All-weaker (Has xs) (λ x. P x → ⊥) (λ x h p. n (x, h, p)) xs (all_has_itself xs)

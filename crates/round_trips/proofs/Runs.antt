@@ -1,5 +1,5 @@
 -- What `rewrite` and `reread` come to.
-use Rattle.std.proofs.Common.{◌≡◌, ℕ, ◌<◌, ◌≤◌, true, List, ◌++◌, length, take, drop, is_ok, Ok, Err, Result, sym, refl, ap, ◌∙◌, subst, arith, MatchResult}
+use Rattle.std.proofs.Common.{◌≡◌, ℕ, ◌≤◌, true, List, ◌++◌, length, take, drop, is_ok, Ok, Err, Result, sym, refl, ap, ◌∙◌, subst, arith, MatchResult}
 use Rattle.std.proofs.lemmas.List.{take_at}
 use Rattle.std.proofs.lemmas.Result.{MatchResult-at_ok}
 use Rattle.clauses.specs.declared.clauses.Clause.{Clause}
@@ -16,7 +16,6 @@ use Rattle.writers.specs.declared.refusals.WriteRefusal.{WriteRefusal}
 use Rattle.writers.proofs.Once.{one_reply}
 use Rattle.round_trips.specs.Replies.{Reread, Rewritten, on_line, on_lines}
 use Rattle.round_trips.proofs.Once.{rows_once, sheet_not_refused}
-use Rattle.round_trips.proofs.Rows.{row_of}
 use Rattle.round_trips.proofs.Undone.{come_back, is_sheet, rewritten}
 
 pub ok_since : {T E : Type 0} (r : Result T E) (P : T → Type 0) (Q : E → Type 0) → MatchResult r P Q → ((e : E) → Q e → ⊥) → is_ok r ≡ true

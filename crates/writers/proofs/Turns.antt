@@ -1,10 +1,10 @@
 -- Which refusal is due, by what was found of the names line and the document.
-use Rattle.std.proofs.Common.{◌≡◌, ℕ, zero, suc, ◌+◌, ◌<◌, ◌≤◌, List, [], length, sym, refl, ap, ◌∙◌, subst, ⊎_elim, arith}
+use Rattle.std.proofs.Common.{◌≡◌, ℕ, zero, suc, ◌<◌, ◌≤◌, List, [], length, sym, refl, ap, ◌∙◌, subst, ⊎_elim, arith}
 use Rattle.std.proofs.lemmas.Bool.{cases_lt}
 use Rattle.formats.specs.Format.{Apart}
 use Rattle.formats.proofs.Splits.{one_line}
 use Rattle.writers.specs.Documents.{Document, TooLong, Unfit, text_of}
-use Rattle.writers.specs.Refusals.{Due, Heading, IsLine, Wrong, turn}
+use Rattle.writers.specs.Refusals.{Due, IsLine, Wrong, turn}
 use Rattle.writers.specs.declared.refusals.WriteRefusal.{WriteRefusal}
 use Rattle.writers.specs.declared.refusals.WriteRefusal.TheVariants.{Names, Twice, Atoms, Long, Room}
 

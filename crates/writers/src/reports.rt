@@ -56,7 +56,9 @@ fn last_line(complete: bool) -> &'static [u8]
 
 // Fills the front of `out` with the names line, the lines of the sets and the last line.
 fn put_report<H: Shelf>(names: &[u8], n: usize, shelf: &H, last: &[u8], out: &mut [u8])
-    requires { (length names.now + length (H.Shelf.sets shelf.now) * (2 * n) + length last.now ≤ length out.old) × ((1 ≤ n) × (n ≤ width)) }
+    requires room { length names.now + length (H.Shelf.sets shelf.now) * (2 * n) + length last.now ≤ length out.old }
+    requires some { 1 ≤ n }
+    requires few { n ≤ width }
     ensures { out.new
         ≡ (lines_under mark_of names.now n (H.Shelf.sets shelf.now) ++ last.now)
         ++ drop (length names.now + length (H.Shelf.sets shelf.now) * (2 * n) + length last.now) out.old }

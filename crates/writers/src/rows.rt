@@ -39,7 +39,9 @@ impl Row for AtomSet {
 
 // Fills `out` with the line of a row for `n` names.
 pub(crate) fn put_row<R: Row>(row: &R, n: usize, out: &mut [u8])
-    requires { (length out.old ≡ 2 * n) × ((1 ≤ n) × (n ≤ width)) }
+    requires size { length out.old ≡ 2 * n }
+    requires some { 1 ≤ n }
+    requires few { n ≤ width }
     ensures { out.new ≡ clause_line (row_by (R.Row.byte row.now) n) }
 {
     for k in 0..n {

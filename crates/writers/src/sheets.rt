@@ -45,7 +45,8 @@ fn any_misfit(clauses: &[Clause], n: usize) -> bool
 
 // The length of a sheet whose names line has `first` bytes, where it is not too long.
 fn sheet_size(first: usize, count: usize, n: usize) -> Option<usize>
-    requires { (1 ≤ n) × (n ≤ width) }
+    requires some { 1 ≤ n }
+    requires few { n ≤ width }
     ensures { MatchOption result
         (longest < first + count * (2 * n))
         (λ size. (size ≡ first + count * (2 * n)) × (size ≤ longest)) }
@@ -62,7 +63,9 @@ fn sheet_size(first: usize, count: usize, n: usize) -> Option<usize>
 
 // Fills the front of `out` with the names line and the lines of the clauses.
 fn put_sheet(names: &[u8], n: usize, clauses: &[Clause], out: &mut [u8])
-    requires { (length names.now + length clauses.now * (2 * n) ≤ length out.old) × ((1 ≤ n) × (n ≤ width)) }
+    requires room { length names.now + length clauses.now * (2 * n) ≤ length out.old }
+    requires some { 1 ≤ n }
+    requires few { n ≤ width }
     ensures { out.new
         ≡ lines_under value_of names.now n clauses.now
         ++ drop (length names.now + length clauses.now * (2 * n)) out.old }

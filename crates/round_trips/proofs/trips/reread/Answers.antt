@@ -6,20 +6,20 @@ use Rattle.round_trips.proofs.trips.reread.Goals as goal
 pub unwrap-requires : goal.unwrap-requires
 unwrap-requires c =
     ok_since c.load.result _ _ c.load.ensures
-    (λ f h. not_refused c.args.names.now c.args.clauses.now c.args.text.now c.in-ok-size.size c.write-sheet.new.out c.in-ok-size.ensures f h.0)
+    (λ f h. not_refused c.args.names.now c.args.clauses.now c.args.text.now c.in_ok-size.size c.write_sheet.new.out c.in_ok-size.ensures f h.0)
 
-pub read-clauses-requires : goal.read-clauses-requires
-read-clauses-requires c =
+pub read_clauses-requires : goal.read_clauses-requires
+read_clauses-requires c =
     let s = c.load.new.self in
     omega (
       arith,
-      count_back c.args.names.now c.args.clauses.now c.args.text.now c.in-ok-size.size c.write-sheet.new.out c.in-ok-size.ensures
-          (names s) (rows s) (loaded s (take c.in-ok-size.size c.write-sheet.new.out) c.load.result _ c.unwrap.result c.unwrap.ensures c.load.ensures),
+      count_back c.args.names.now c.args.clauses.now c.args.text.now c.in_ok-size.size c.write_sheet.new.out c.in_ok-size.ensures
+          (names s) (rows s) (loaded s (take c.in_ok-size.size c.write_sheet.new.out) c.load.result _ c.unwrap.result c.unwrap.ensures c.load.ensures),
     )
 
 pub returns : goal.returns
 returns c =
     let s = c.load.new.self in
-    rereads c.args.names.now c.args.clauses.now c.args.text.now c.in-ok-size.size c.write-sheet.new.out c.in-ok-size.ensures
-    (names s) (rows s) (loaded s (take c.in-ok-size.size c.write-sheet.new.out) c.load.result _ c.unwrap.result c.unwrap.ensures c.load.ensures)
-    c.args.again.now c.read-clauses.new.places _ (omega arith) (omega arith) c.read-clauses.ensures
+    rereads c.args.names.now c.args.clauses.now c.args.text.now c.in_ok-size.size c.write_sheet.new.out c.in_ok-size.ensures
+    (names s) (rows s) (loaded s (take c.in_ok-size.size c.write_sheet.new.out) c.load.result _ c.unwrap.result c.unwrap.ensures c.load.ensures)
+    c.args.again.now c.read_clauses.new.places _ (omega arith) (omega arith) c.read_clauses.ensures

@@ -24,10 +24,10 @@ module _ (n : ℕ) (c : Clause) (u : AtomSet) (m : (a : ℕ) → hasb (bits u) a
   by_both e true w = in_both w.0 w.1 w.2
   by_both e false w = fits e w
 
-pub returns-then-has-unnamed : goal.returns-then-has-unnamed
-returns-then-has-unnamed c =
-    rw c.if-has-unnamed.true (misfit c.args.n c.args.clause.now c.union.result c.union.ensures.members c.if-has-unnamed.ensures)
+pub returns-then-has_unnamed : goal.returns-then-has_unnamed
+returns-then-has_unnamed c =
+    rw c.if-has_unnamed.true (misfit c.args.n c.args.clause.now c.union.result c.union.ensures.members c.if-has_unnamed.ensures)
 
-pub returns-else-has-unnamed : goal.returns-else-has-unnamed
-returns-else-has-unnamed c =
-    by_both c.args.n c.args.clause.now c.union.result c.union.ensures.members c.if-has-unnamed.ensures c.intersects.result c.intersects.ensures
+pub returns-else-has_unnamed : goal.returns-else-has_unnamed
+returns-else-has_unnamed c =
+    by_both c.args.n c.args.clause.now c.union.result c.union.ensures.members c.if-has_unnamed.ensures c.intersects.result c.intersects.ensures

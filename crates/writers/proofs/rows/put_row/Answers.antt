@@ -15,8 +15,8 @@ loop-k-preserved g c =
     pairs_more (g.R.Row.byte c.args.row.now) c.args.n c.loop-k.k c.value.result c.if-k-n.out c.loop-k.out
     (omega arith) (c.value.ensures ∙ ap (g.R.Row.byte c.args.row.now) (number g c))
     (elim c.if-k-n.branch [
-      | then-k-n w ↦ w.out_is ∙ sym (cond-true _ 10 32 (eq-eqb (c.loop-k.k + 1) c.args.n w.if-k-n.true))
-      | else-k-n w ↦ w.out_is ∙ sym (cond-false _ 10 32 (ne_eqb (c.loop-k.k + 1) c.args.n w.if-k-n.false))
+      | then-k-n w ↦ w.out-is ∙ sym (cond-true _ 10 32 (eq-eqb (c.loop-k.k + 1) c.args.n w.if-k-n.true))
+      | else-k-n w ↦ w.out-is ∙ sym (cond-false _ 10 32 (ne_eqb (c.loop-k.k + 1) c.args.n w.if-k-n.false))
     ])
     c.loop-k.invariant
 

@@ -6,32 +6,32 @@ use Rattle.writers.proofs.sheets.put_sheet.Goals as goal
 
 pub loop-clause-init : goal.loop-clause-init
 loop-clause-init c =
-    filled_none value_of c.args.n (omega arith) c.args.names.now c.copy-from-slice.new.self c.args.out.now c.copy-from-slice.ensures.after c.args.clauses.now
+    filled_none value_of c.args.n (omega arith) c.args.names.now c.copy_from_slice.new.self c.args.out.now c.copy_from_slice.ensures.after c.args.clauses.now
 
 room : (c : goal.After-clause-item) → c.loop-clause.at + 2 * c.args.n ≤ length c.args.out.now
 room c =
-    room_at value_of c.args.n (omega arith) c.args.names.now c.copy-from-slice.new.self c.args.out.now c.copy-from-slice.ensures.after c.args.clauses.now
+    room_at value_of c.args.n (omega arith) c.args.names.now c.copy_from_slice.new.self c.args.out.now c.copy_from_slice.ensures.after c.args.clauses.now
     c.loop-clause.clause-index c.loop-clause.at c.loop-clause.out c.loop-clause.invariant (length c.args.out.now) (omega arith) (omega arith)
 
-pub overflow-add-end : goal.overflow-add-end
-overflow-add-end c = omega (arith, room c)
+pub overflow_add-end : goal.overflow_add-end
+overflow_add-end c = omega (arith, room c)
 
-pub slice-bounds-put-row-end : goal.slice-bounds-put-row-end
-slice-bounds-put-row-end c =
+pub slice_bounds-put_row-end : goal.slice_bounds-put_row-end
+slice_bounds-put_row-end c =
     omega (
       arith,
       room c,
-      length-append c.copy-from-slice.new.self (drop (length c.args.names.now) c.args.out.now),
-      ap length c.copy-from-slice.ensures.after,
+      length-append c.copy_from_slice.new.self (drop (length c.args.names.now) c.args.out.now),
+      ap length c.copy_from_slice.ensures.after,
       length-drop (length c.args.names.now) c.args.out.now,
     )
 
 pub loop-clause-preserved : goal.loop-clause-preserved
 loop-clause-preserved c =
-    filled_more value_of c.args.n (omega arith) c.args.names.now c.copy-from-slice.new.self c.args.out.now c.copy-from-slice.ensures.after c.args.clauses.now
-    c.loop-clause.clause-index c.loop-clause.at c.loop-clause.out c.loop-clause.invariant c.clause-item.result c.put-row.new.out (omega arith) c.clause-item.is c.put-row.ensures
+    filled_more value_of c.args.n (omega arith) c.args.names.now c.copy_from_slice.new.self c.args.out.now c.copy_from_slice.ensures.after c.args.clauses.now
+    c.loop-clause.clause-index c.loop-clause.at c.loop-clause.out c.loop-clause.invariant c.clause-item.result c.put_row.new.out (omega arith) c.clause-item.is c.put_row.ensures
 
 pub returns : goal.returns
 returns c =
-    filled_all value_of c.args.n (omega arith) c.args.names.now c.copy-from-slice.new.self c.args.out.now c.copy-from-slice.ensures.after c.args.clauses.now
+    filled_all value_of c.args.n (omega arith) c.args.names.now c.copy_from_slice.new.self c.args.out.now c.copy_from_slice.ensures.after c.args.clauses.now
     c.loop-clause.clause-index c.loop-clause.at c.loop-clause.out c.loop-clause.invariant (omega arith)
