@@ -5,8 +5,8 @@ use Rattle.cases.specs.Cases.{clauses_of}
 use Rattle.explaining.proofs.Requests.{of_source}
 use Rattle.explaining.proofs.listing.list_first.Goals as goal
 
-pub list-on-complete-requires : goal.list-on-complete-requires
-list-on-complete-requires g c =
+pub list_on-complete-requires : goal.list_on-complete-requires
+list_on-complete-requires g c =
     (c.open-listing.ensures.sound (clauses_of g.S.Source.clauses c.open-listing.result), c.clear.ensures.empty)
 
 pub returns : goal.returns
@@ -15,7 +15,7 @@ returns g c =
     record {
       firsts =
           of_source f c.open-listing.result c.args.source (c.open-listing.ensures.standing ∙ c.new.ensures.standing)
-          (c.open-listing.ensures.below ∙ c.new.ensures.below) c.clear.ensures.places c.list-on-complete.ensures.firsts;
-      room = c.list-on-complete.ensures.room ∙ c.clear.ensures.places;
-      lender = c.list-on-complete.ensures.lender ∙ c.clear.ensures.lender;
+          (c.open-listing.ensures.below ∙ c.new.ensures.below) c.clear.ensures.places c.list_on-complete.ensures.firsts;
+      room = c.list_on-complete.ensures.room ∙ c.clear.ensures.places;
+      lender = c.list_on-complete.ensures.lender ∙ c.clear.ensures.lender;
     }

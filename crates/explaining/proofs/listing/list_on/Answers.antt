@@ -21,7 +21,7 @@ requests-preserved g c =
     let e = c.in-Ok.ensures in
     let v = told cs f (g.H.Shelf.room c.args.shelf.now) l (g.H.Shelf.sets h) (g.H.Shelf.room h) i in (
       (goes_on cs f (g.H.Shelf.room c.args.shelf.now) l (g.H.Shelf.sets h) (g.H.Shelf.room h) i c.in-Ok.next
-          c.if-is-none.ensures c.request.new.self (g.H.Shelf.sets c.request.new.shelf)
+          c.if-is_none.ensures c.request.new.self (g.H.Shelf.sets c.request.new.shelf)
           (g.H.Shelf.room c.request.new.shelf) (e.answer v)
           (same_clauses f l c.request.new.self e.standing e.below) e.room e.kept (e.sound v)).0,
       e.lender ∙ c.requests.invariant.1,
@@ -37,13 +37,13 @@ requests-smaller g c =
     let e = c.in-Ok.ensures in
     let v = told cs f (g.H.Shelf.room c.args.shelf.now) l (g.H.Shelf.sets h) (g.H.Shelf.room h) i in
     (goes_on cs f (g.H.Shelf.room c.args.shelf.now) l (g.H.Shelf.sets h) (g.H.Shelf.room h) i c.in-Ok.next
-    c.if-is-none.ensures c.request.new.self (g.H.Shelf.sets c.request.new.shelf)
+    c.if-is_none.ensures c.request.new.self (g.H.Shelf.sets c.request.new.shelf)
     (g.H.Shelf.room c.request.new.shelf) (e.answer v)
     (same_clauses f l c.request.new.self e.standing e.below) e.room e.kept (e.sound v)).1
 
 -- there are no more
-pub returns-then-is-none : goal.returns-then-is-none
-returns-then-is-none g c =
+pub returns-then-is_none : goal.returns-then-is_none
+returns-then-is_none g c =
     let f = g.S.Source.clauses in
     let l = c.requests.listing in
     let h = c.requests.shelf in
@@ -54,20 +54,20 @@ returns-then-is-none g c =
     record {
       firsts =
           ends cs f (g.H.Shelf.room c.args.shelf.now) l (g.H.Shelf.sets h) (g.H.Shelf.room h) i c.in-Ok.next
-          c.if-is-none.ensures (g.H.Shelf.sets c.request.new.shelf) (e.answer v) e.kept;
+          c.if-is_none.ensures (g.H.Shelf.sets c.request.new.shelf) (e.answer v) e.kept;
       room = e.room ∙ i.room_is;
       lender = e.lender ∙ c.requests.invariant.1;
     }
 
 -- there is no place for the next
-pub returns-in-default : goal.returns-in-default
-returns-in-default g c =
+pub returns-in_default : goal.returns-in_default
+returns-in_default g c =
     let f = g.S.Source.clauses in
     let l = c.requests.listing in
     let h = c.requests.shelf in
     let cs = clauses_of f c.args.listing.now in
     let i = c.requests.invariant.0 in
-    let e = c.in-default.ensures in
+    let e = c.in_default.ensures in
     let v = told cs f (g.H.Shelf.room c.args.shelf.now) l (g.H.Shelf.sets h) (g.H.Shelf.room h) i in
     record {
       firsts =

@@ -7,10 +7,10 @@ use Rattle.explaining.proofs.Copied.{of_table}
 use Rattle.explaining.proofs.printing.print_sheet.Goals as goal
 
 -- the table has the clauses of the sheet, with other origins
-pub print-report-requires : goal.print-report-requires
-print-report-requires c =
+pub print_report-requires : goal.print_report-requires
+print_report-requires c =
     let places : room_of c.new-shelf.result ≡ most = search rules in (
       c.requires,
       of_table (table_clauses c.new.result) c.deref.result.now (clauses c.args.sheet.now) c.new.ensures
-          (c.deref.ensures.value ∙ c.in-ok-records.ensures) places c.list-first-complete.ensures.firsts,
+          (c.deref.ensures.value ∙ c.in_ok-records.ensures) places c.list_first-complete.ensures.firsts,
     )
