@@ -24,9 +24,12 @@ module _ {X : Type 0} (f : X → ℕ → ℕ) (text : List ℕ) (n : ℕ) (h : H
   pub lines_size : length (lines_under f text n xs) ≡ length text + length xs * (2 * n)
   lines_size = length_text f n (omega (arith, h.is_line.names_ok.some, h.count)) text xs
 
-pub last_short : (b : Bool) → length (last_line b) ≤ 5
+last_short : (b : Bool) → length (last_line b) ≤ 5
 last_short true = omega arith
 last_short false = omega arith
+
+pub last_within : (b : Bool) (last : List ℕ) → last ≡ last_line b → length last ≤ 5
+last_within b last e = omega (arith, last_short b, ap length e)
 
 -- the lines of a shelf's sets are not too long for a number
 pub lines_short : (text : List ℕ) (n count : ℕ) → Heading text n → count ≤ limit → count * (2 * n) ≤ limit * (2 * most-names)

@@ -4,7 +4,7 @@ use Rattle.formats.specs.Format.{most-names}
 use Rattle.lists.specs.Limit.{limit}
 use Rattle.writers.specs.Documents.Document.{report}
 use Rattle.writers.specs.Documents.{lines_under, mark_of}
-use Rattle.writers.proofs.Written.{last_short, lines_short, refused_atoms, refused_room, report_is, report_size, written}
+use Rattle.writers.proofs.Written.{last_within, lines_short, refused_atoms, refused_room, report_is, report_size, written}
 use Rattle.writers.proofs.reports.write_report.Goals as goal
 
 pub returns-in_err-n : goal.returns-in_err-n
@@ -27,7 +27,7 @@ pub overflow_add-size : goal.overflow_add-size
 overflow_add-size g c = omega (arith, few g c)
 
 pub overflow_add-size-2 : goal.overflow_add-size-2
-overflow_add-size-2 g c = omega (arith, few g c, last_short c.args.complete, ap length c.last_line-last.ensures)
+overflow_add-size-2 g c = omega (arith, few g c, last_within _ c.last_line-last.result.now c.last_line-last.ensures)
 
 pub returns-then-out-size : goal.returns-then-out-size
 returns-then-out-size g c =
