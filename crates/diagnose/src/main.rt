@@ -3,7 +3,8 @@
 use help::HELP;
 use std::io;
 use std::io::{Read, Write};
-use usage::{advise, is_to_run};
+use std::process::ExitCode;
+use usage::{advise, early_status};
 
 mod answers;
 mod commands;
@@ -11,14 +12,14 @@ mod help;
 mod judgements;
 mod sessions;
 
-fn main(rt: HostRuntime) -> io::Result<()> {
-    if !is_to_run(&rt, HELP)? {
-        return Ok(());
+fn main(rt: HostRuntime) -> io::Result<ExitCode> {
+    if let Some(status) = early_status(&rt, HELP)? {
+        return Ok(status);
     }
     let mut text = Vec::new(rt.alloc());
     rt.stdin().read_to_end(&mut text)?;
     let printed = sessions::diagnose(rt.alloc(), &text)?;
     rt.stdout().write_all(&printed)?;
     advise(&rt, sessions::sheet_part(&text));
-    Ok(())
+    Ok(ExitCode::SUCCESS)
 }
