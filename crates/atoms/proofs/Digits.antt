@@ -1,10 +1,10 @@
 -- The binary digits of a number, place by place: what `&`, `|`, a difference and a power of two have at each place, and that the digits
 -- determine the number. Over any number of digits.
-use Rattle.std.proofs.Common.{◌≡◌, ℕ, zero, suc, ◌+◌, ◌-◌, ◌*◌, ◌/◌, ◌%◌, ◌^◌, ◌<◌, ◌≤◌, min, max, Bool, true, false, not, ◌&&◌, ◌||◌, sym, refl, ap, ◌∙◌, subst, ap₂, mod-lt, zero-lt-suc, add_comm, pow-suc, div-add-mod', div-one, add-one, one-add, arith, pow_pos, shr-shr}
+use Rattle.std.proofs.Common.{◌≡◌, ℕ, zero, suc, ◌-◌, ◌/◌, ◌%◌, ◌^◌, ◌<◌, ◌≤◌, min, max, sym, refl, ap, ◌∙◌, ap₂, pow-suc, div-one, one-add, arith, shr-shr}
 use native.Mathlib.Nat.{zero-div}
 use lib.Arith.{bin_ind}
 use lib.Bits.{bit_and, bit_or, and_le_l, and_step, or_step, and_shr, or_shr}
-use Rattle.atoms.specs.Sets.{digit, hasb}
+use Rattle.atoms.specs.Sets.{digit}
 
 pub digit_first : (s : ℕ) → digit s 0 ≡ s % 2
 unfolding digit

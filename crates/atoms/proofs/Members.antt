@@ -1,12 +1,12 @@
 -- The laws of sets of atoms. A set is a number, and the atom `a` is in `s` where `has s a`. Nothing here depends on how many atoms there are.
-use Rattle.std.proofs.Common.{◌≡◌, ℕ, zero, suc, ◌+◌, ◌-◌, ◌*◌, ◌/◌, ◌%◌, ◌^◌, ◌<◌, ◌≤◌, min, max, Bool, true, false, not, ◌&&◌, ◌||◌, eqb, ltb, ◌⊎◌, sym, refl, ap, ◌∙◌, subst, ap₂, inl, inr, suc-le-suc, zero-le, lt_of_lt_of_le, le_of_suc-le-suc, not-suc-le-zero, lt_irrefl, pow-suc, arith, pow_pos, pow_mono}
+use Rattle.std.proofs.Common.{◌≡◌, ℕ, zero, suc, ◌+◌, ◌-◌, ◌/◌, ◌%◌, ◌^◌, ◌<◌, ◌≤◌, max, true, false, not, ◌&&◌, ◌||◌, eqb, ltb, ◌⊎◌, sym, refl, ap, ◌∙◌, subst, inl, inr, suc-le-suc, zero-le, lt_of_lt_of_le, le_of_suc-le-suc, not-suc-le-zero, lt_irrefl, pow-suc, arith, pow_pos, pow_mono}
 use lib.Bits.{bit_and, bit_or, and_comm, and_le_l, and_le_r, and_step, and_self, or_step, or_zero_r}
-use lib.Count.{ones, count_trailing_zeros, count_leading_zeros, under, ones_step, ones-le, leading_top}
+use lib.Count.{ones, count_trailing_zeros, under, ones_step, ones-le, leading_top}
 use lib.Arith.{bin_ind}
 use Rattle.std.proofs.lemmas.Bool.{eq-eqb, ne_eqb, eqb-true, cases_Bool, cases_eq, cases_lt, both_ways, not-true, and_parts, and_from, and_left, and_right, not_from_true, or_left, or_right, or_cases}
 use Rattle.std.proofs.lemmas.Bool.Decides.{nat_tests}
 use Rattle.atoms.specs.Sets.{digit, hasb, has, ◌⊆◌, Disjoint, Empty, Least, Greatest, union, meet, minus, insert, remove, size}
-use Rattle.atoms.proofs.Digits.{digit_first, digit_next, digit-below, digit_zero, same_from_digits, zero_from_digits, digit_and, digit_or, digit-minus, digit_pow, digit_pow_other, pow_le, below_pow}
+use Rattle.atoms.proofs.Digits.{digit_first, digit_next, digit-below, digit_zero, same_from_digits, digit_and, digit_or, digit-minus, digit_pow, digit_pow_other, pow_le, below_pow}
 
 -- ---- membership, and the digit that says it
 

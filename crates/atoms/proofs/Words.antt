@@ -1,11 +1,11 @@
 -- What the code computes with words of `k` digits, in terms of sets.
-use Rattle.std.proofs.Common.{◌≡◌, ℕ, zero, suc, ◌+◌, ◌-◌, ◌*◌, ◌/◌, ◌%◌, ◌^◌, ◌<◌, ◌≤◌, Bool, true, false, not, eqb, MatchBool, sym, refl, ap, ◌∙◌, subst, pow-suc, arith}
+use Rattle.std.proofs.Common.{◌≡◌, ℕ, zero, suc, ◌+◌, ◌-◌, ◌/◌, ◌^◌, ◌<◌, Bool, true, false, not, eqb, MatchBool, sym, refl, ap, ◌∙◌, subst, pow-suc, arith}
 use lib.Arith.{lt-one}
 use lib.Bits.{bit_and, and_mask, and_step}
 use lib.Count.{count_leading_zeros, leading_top}
 use Rattle.std.proofs.lemmas.Bool.{eqb-true, eqb-false}
-use Rattle.atoms.specs.Sets.{digit, hasb, has, ◌⊆◌, Disjoint, Empty, Least, Greatest, minus, remove, size, Dropped}
-use Rattle.atoms.proofs.Members.{empty_from_zero, least_from_members, meet-from_sub, sub_from-meet, disjoint_from-meet, outside, common, greatest_from_bounds, pos_from-has, drop_least, hasb-drop, remove_less, size-remove}
+use Rattle.atoms.specs.Sets.{digit, hasb, has, ◌⊆◌, Disjoint, Empty, Greatest, minus, size, Dropped}
+use Rattle.atoms.proofs.Members.{empty_from_zero, least_from_members, sub_from-meet, disjoint_from-meet, outside, common, greatest_from_bounds, pos_from-has, drop_least, hasb-drop, remove_less, size-remove}
 
 -- `(s >> a) & 1 == 1`
 pub contains_is : (s a : ℕ) → eqb (bit_and (s / 2 ^ a) 1) 1 ≡ hasb s a

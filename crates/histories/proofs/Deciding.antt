@@ -1,10 +1,9 @@
 -- The law decides every answer, and a refused call leaves no trace.
-use Rattle.std.proofs.Common.{◌≡◌, ℕ, ◌<◌, ◌≤◌, Bool, cond, ltb, ◌⊎◌, List, [], ◌∷◌, ◌++◌, map, length, get_or, sym, refl, ap, ◌∙◌, subst, ap₂, inl, inr, append_assoc, arith}
+use Rattle.std.proofs.Common.{◌≡◌, ℕ, ◌<◌, ◌≤◌, cond, ltb, ◌⊎◌, List, [], ◌∷◌, ◌++◌, map, length, get_or, sym, refl, ap, ◌∙◌, subst, ap₂, inl, inr, append_assoc, arith}
 use Rattle.std.proofs.lemmas.List.{append-nil}
 use Rattle.std.proofs.lemmas.Bool.{cases_lt, cond-false, cond-true, le-ltb, lt-ltb}
-use Rattle.atoms.specs.Atoms.{bits, set_of}
+use Rattle.atoms.specs.Atoms.{set_of}
 use Rattle.atoms.proofs.Values.{value_is}
-use Rattle.models.specs.Models.{Explanations}
 use Rattle.models.specs.Lister.{explanations}
 use Rattle.models.proofs.Lister.{explanations_right}
 use Rattle.clauses.specs.Clauses.{language}
@@ -12,11 +11,10 @@ use Rattle.clauses.specs.declared.clauses.Clause.{Clause}
 use Rattle.clauses.proofs.Decided.{laws}
 use Rattle.layers.specs.Standing.{observed_over}
 use Rattle.layers.specs.declared.observations.Observation.{Observation}
-use Rattle.cases.specs.Observing.{verdict, withdrawal}
 use Rattle.cases.specs.declared.refusals.RequestRefusal.TheVariants.{WrongShelf, ShelfFull}
-use Rattle.histories.specs.Answers.{call_of, handed, handed_by, told_observe, told_withdraw}
-use Rattle.histories.specs.Histories.{Complete, Due, if_done, InTurn, Listed, Opened, standing, Turn}
-use Rattle.histories.specs.Phases.{after, Lawful, LawfulFrom, Phase, phase_after, phase_from, Right, Told}
+use Rattle.histories.specs.Answers.{call_of, handed, handed_by}
+use Rattle.histories.specs.Histories.{Complete, Due, if_done, InTurn, Listed, Opened, standing}
+use Rattle.histories.specs.Phases.{after, Lawful, LawfulFrom, Phase, phase_after, Right, Told}
 use Rattle.histories.specs.Phases.Phase.{resting, listing}
 use Rattle.histories.specs.Theorems.{NoFreedom, NoTrace, Refused}
 use Rattle.histories.specs.declared.calls.Answer.{Answer}

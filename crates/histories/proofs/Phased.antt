@@ -1,7 +1,6 @@
 -- The phases of a history that is lawful, by its listings.
 use Rattle.std.proofs.Common.{◌≡◌, ℕ, ◌⊎◌, List, [], ◌∷◌, ◌++◌, sym, refl, ap, ◌∙◌, subst, ap₂, inl, inr, append_assoc}
 use Rattle.std.proofs.lemmas.List.{append-nil}
-use Rattle.std.specs.List.{AllByRecursion}
 use Rattle.clauses.specs.declared.clauses.Clause.{Clause}
 use Rattle.layers.specs.declared.observations.Observation.{Observation}
 use Rattle.histories.specs.Answers.{handed, handed_by}

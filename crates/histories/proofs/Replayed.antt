@@ -4,8 +4,8 @@ use Rattle.std.proofs.lemmas.List.{append-nil, take_more_set}
 use Rattle.atoms.specs.Atoms.{bits}
 use Rattle.atoms.specs.declared.AtomSet.{AtomSet}
 use Rattle.clauses.specs.declared.clauses.Clause.{Clause}
-use Rattle.histories.specs.Answers.{call_of, handed}
-use Rattle.histories.specs.Histories.{Listed as ListedIn, OnShelf}
+use Rattle.histories.specs.Answers.{call_of}
+use Rattle.histories.specs.Histories.{OnShelf}
 use Rattle.histories.specs.Phases.{after, Lawful, Phase, phase_after, Right}
 use Rattle.histories.specs.Phases.Phase.{resting, listing}
 use Rattle.histories.specs.States.{Agrees}

@@ -1,5 +1,5 @@
 -- What the law over whole runs comes to.
-use Rattle.std.specs.Prelude.{◌≡◌, ℕ, List, [], ◌∷◌, ◌++◌, map}
+use Rattle.std.specs.Prelude.{◌≡◌, ℕ, List, ◌∷◌, ◌++◌, map}
 use Rattle.clauses.specs.declared.clauses.Clause.{Clause}
 use Rattle.histories.specs.Answers.{call_of}
 use Rattle.histories.specs.Histories.{Complete}

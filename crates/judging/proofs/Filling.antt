@@ -1,5 +1,5 @@
 -- The list of reasons in the memory of its lender.
-use Rattle.std.proofs.Common.{◌≡◌, ℕ, ◌<◌, List, [], ◌∷◌, ◌++◌, length, take, drop, sym, refl, ap, ◌∙◌, subst, arith}
+use Rattle.std.proofs.Common.{◌≡◌, ℕ, ◌<◌, List, [], ◌++◌, length, take, drop, sym, refl, ap, ◌∙◌, subst, arith}
 use Rattle.clauses.specs.declared.clauses.Clause.{Clause}
 use Rattle.judging.specs.Reasons.{Complete, Front}
 use Rattle.judging.specs.declared.records.Reason.{Reason}

@@ -1,5 +1,5 @@
 -- Going through the atoms of a set, the least first: what holds of each atom that is passed.
-use Rattle.std.proofs.Common.{◌≡◌, ℕ, ◌≤◌, true, false, ◌&&◌, ltb, ◌⊎◌, sym, ◌∙◌, subst, inl, inr, arith}
+use Rattle.std.proofs.Common.{◌≡◌, ℕ, false, ltb, ◌⊎◌, sym, ◌∙◌, subst, inl, inr, arith}
 use Rattle.atoms.proofs.Members.{hasb_zero, not_has}
 use Rattle.atoms.specs.Sets.{Dropped, Least, ◌⊆◌, has, hasb}
 use Rattle.std.proofs.lemmas.Bool.{and_cases, and_parts, cases_Bool, ltb-false}

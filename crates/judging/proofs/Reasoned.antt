@@ -9,11 +9,11 @@ use Rattle.clauses.proofs.Decided.{laws}
 use Rattle.clauses.specs.Clauses.{language}
 use Rattle.clauses.specs.declared.clauses.Clause.{Clause}
 use Rattle.judging.proofs.Passed.{Passed, passed_all, passed_more, passed_none}
-use Rattle.judging.specs.Laws.{Reasoning, ReasonsLaw, Tight}
+use Rattle.judging.specs.Laws.{ReasonsLaw, Tight}
 use Rattle.judging.specs.Reasons.{Complete, EachHasReason, HasReason, Tells}
 use Rattle.judging.specs.declared.records.Reason.{Reason}
 use Rattle.models.proofs.Broken.{first_some, none_model}
-use Rattle.models.specs.Models.{First, Minimal, Model, first_broken}
+use Rattle.models.specs.Models.{Minimal, Model, first_broken}
 use Rattle.std.proofs.lemmas.List.{length_push}
 
 module _ (cs : List Clause) (s : ℕ) where

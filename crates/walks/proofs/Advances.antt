@@ -1,9 +1,9 @@
 -- The top record drops the atom that it takes.
-use Rattle.std.proofs.Common.{◌≡◌, ℕ, zero, suc, ◌-◌, ◌<◌, ◌≤◌, List, [], ◌∷◌, length, get_or, set, sym, refl, ap, ◌∙◌, subst, arith}
+use Rattle.std.proofs.Common.{◌≡◌, ℕ, zero, suc, ◌-◌, ◌<◌, ◌≤◌, List, ◌∷◌, length, get_or, set, sym, ap, ◌∙◌, subst, arith}
 use Rattle.std.proofs.lemmas.List.{get_or_default}
 use Rattle.std.proofs.lemmas.Bool.{and_parts}
 use Rattle.atoms.specs.Atoms.{bits}
-use Rattle.atoms.specs.Sets.{has, hasb, Disjoint, Dropped, meet, size, ◌⊆◌}
+use Rattle.atoms.specs.Sets.{hasb, Dropped, meet, size, ◌⊆◌}
 use Rattle.atoms.specs.declared.AtomSet.{AtomSet}
 use Rattle.atoms.proofs.Members.{disjoint_from-meet, least_from_members, meet-from_disjoint}
 use Rattle.models.specs.Rows.{stacked}

@@ -1,12 +1,10 @@
 -- The present branch of a record.
-use Rattle.std.proofs.Common.{◌≡◌, ℕ, ◌+◌, ◌-◌, ◌^◌, ◌<◌, Bool, true, false, ◌||◌, ◌⊎◌, MatchBool, sym, refl, ap, ◌∙◌, subst, inl, inr, arith}
+use Rattle.std.proofs.Common.{◌≡◌, ℕ, ◌+◌, ◌^◌, ◌<◌, Bool, true, false, ◌||◌, ◌⊎◌, MatchBool, sym, refl, ap, ◌∙◌, subst, inl, inr, arith}
 use lib.Bits.{bit_and, and_comm}
 use Rattle.std.proofs.lemmas.Bool.{eqb-true, eq-eqb}
 use Rattle.atoms.specs.Atoms.{bits}
 use Rattle.atoms.specs.Sets.{hasb, has, Disjoint, Dropped, insert, Least, minus, remove, size, union}
-use Rattle.atoms.specs.declared.AtomSet.{AtomSet}
 use Rattle.atoms.proofs.Members.{hasb-drop, hasb_or, hasb_pow, insert_cases, lacks, least_from_members, meet-from_sub, remove_is, size_below, size-insert, below-from_members, minus_sub, has-below}
-use Rattle.atoms.proofs.Values.{bits_below, atom_below}
 use Rattle.models.specs.Rows.{Row, Present}
 use Rattle.clauses.specs.Clauses.{language}
 use Rattle.walks.specs.Branches.{row_of}

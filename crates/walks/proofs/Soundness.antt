@@ -1,5 +1,5 @@
 -- The steps of a walk keep it sound.
-use Rattle.std.proofs.Common.{◌≡◌, ℕ, zero, suc, ◌<◌, Bool, true, false, eqb, ◌⊎◌, List, [], ◌∷◌, ◌++◌, map, get_or, Some, None, sym, refl, ap, ◌∙◌, subst, inl, inr, arith}
+use Rattle.std.proofs.Common.{◌≡◌, ℕ, zero, suc, ◌<◌, true, false, eqb, ◌⊎◌, List, [], ◌∷◌, ◌++◌, map, sym, refl, ap, ◌∙◌, subst, inl, inr, arith}
 use mathlib.Core.List.{Memᴰ}
 use Rattle.std.proofs.lemmas.Bool.{both_ways, cases_Bool, ne_eqb}
 use Rattle.std.specs.List.{AllByRecursion}
@@ -7,7 +7,7 @@ use Rattle.atoms.specs.Atoms.{bits}
 use Rattle.atoms.specs.Sets.{hasb, ◌⊆◌, Disjoint, union, insert, remove}
 use Rattle.atoms.specs.declared.AtomSet.{AtomSet}
 use Rattle.atoms.proofs.Members.{least_from_members}
-use Rattle.models.specs.Models.{Explanations, Model, first_broken}
+use Rattle.models.specs.Models.{Explanations, Model}
 use Rattle.models.specs.Rows as rows
 use Rattle.models.specs.Rows.{At, Back, Standing, stacked}
 use Rattle.models.specs.Search.{Clear, Covered, Front}

@@ -3,7 +3,6 @@ use Rattle.std.proofs.Common.{◌≡◌, ℕ, zero, suc, ◌+◌, ◌-◌, ◌*�
 use native.Mathlib.Nat.{pow-succ', pow-zero}
 use Rattle.std.proofs.lemmas.Bool.{eqb-false}
 use Rattle.atoms.specs.Atoms.{bits, width}
-use Rattle.atoms.specs.Sets.{Dropped}
 use Rattle.atoms.specs.declared.AtomSet.{AtomSet}
 use Rattle.atoms.proofs.Values.{bits_below}
 use Rattle.walks.specs.Branches.{blank}

@@ -1,5 +1,5 @@
 -- Where a branch leads, and what is found there.
-use Rattle.std.specs.Prelude.{◌≡◌, ℕ, ◌<◌, true, false, ◌⊎◌, List, Some, None}
+use Rattle.std.specs.Prelude.{◌≡◌, ℕ, ◌<◌, true, false, List, Some, None}
 use Rattle.atoms.specs.Atoms.{bits}
 use Rattle.atoms.specs.Sets.{hasb, Least}
 use Rattle.atoms.specs.declared.AtomSet.{AtomSet}

@@ -1,10 +1,10 @@
-use Rattle.std.proofs.Common.{◌≡◌, ℕ, ◌+◌, ◌<◌, ◌≤◌, List, map, length, sym, refl, ap, ◌∙◌, subst, arith, rules}
+use Rattle.std.proofs.Common.{◌≡◌, ℕ, ◌+◌, List, map, length, sym, refl, ap, ◌∙◌, subst, arith}
 use lib.ListN.{length-map}
 use Rattle.std.proofs.lemmas.List.{append-nil}
 use Rattle.atoms.specs.Atoms.{bits}
 use Rattle.atoms.specs.declared.AtomSet.{AtomSet}
 use Rattle.walks.specs.Walks as walks
-use Rattle.cases.specs.Cases.{clauses_of, Sound}
+use Rattle.cases.specs.Cases.{clauses_of}
 use Rattle.cases.proofs.Answering.{count_sets, next_is, none_left, sound_handed}
 use Rattle.cases.proofs.Listing.request.Goals as goal
 

@@ -1,4 +1,4 @@
-use Rattle.std.proofs.Common.{◌≡◌, get_or, take, ◌∙◌}
+use Rattle.std.proofs.Common.{get_or, take, ◌∙◌}
 use Rattle.histories.specs.Answers.{blank, call_of}
 use Rattle.histories.proofs.Completing.{complete}
 use Rattle.histories.proofs.Phased.{barred}

@@ -1,5 +1,4 @@
 use Rattle.std.proofs.Common.{List, ap, ◌∙◌, subst}
-use Rattle.atoms.specs.Atoms.{bits}
 use Rattle.clauses.specs.declared.clauses.Clause.{Clause}
 use Rattle.judging.proofs.Judged.{minimal_searched}
 use Rattle.judging.specs.Standing.{standing_clauses}

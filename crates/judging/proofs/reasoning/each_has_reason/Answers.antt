@@ -1,4 +1,4 @@
-use Rattle.std.proofs.Common.{◌≡◌, ℕ, true, false, sym, ◌∙◌, subst}
+use Rattle.std.proofs.Common.{ℕ, sym, subst}
 use Rattle.atoms.specs.Atoms.{bits, index}
 use Rattle.clauses.specs.Clauses.{language}
 use Rattle.judging.proofs.Passed.{passed_all, passed_more}

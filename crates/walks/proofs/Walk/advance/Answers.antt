@@ -2,7 +2,7 @@ use Rattle.std.proofs.Common.{◌<◌, ◌≤◌, length, sym, ◌∙◌, arith}
 use Rattle.std.proofs.lemmas.List.{length-set}
 use Rattle.std.proofs.lemmas.Bool.{eq-eqb, eqb-false, eqb-true, ne_eqb}
 use Rattle.atoms.specs.Atoms.{bits}
-use Rattle.walks.proofs.Advances.{advance_none, advance_pop, advance_stop, apart_pop, apart_stop, live_pop, live_stop, sized_pop, sized_stop}
+use Rattle.walks.proofs.Advances.{advance_none, advance_pop, advance_stop, apart_stop, live_stop, sized_stop}
 use Rattle.walks.proofs.Walk.advance.Goals as goal
 
 pub invariant_of-self : goal.invariant_of-self

@@ -1,4 +1,4 @@
-use Rattle.std.proofs.Common.{◌≡◌, ◌<◌, map, sym, ap, ◌∙◌, subst, arith, rules}
+use Rattle.std.proofs.Common.{◌≡◌, ◌<◌, ap, ◌∙◌, subst, arith}
 use Rattle.atoms.specs.Atoms.{bits, width}
 use Rattle.atoms.specs.Sets.{size}
 use Rattle.atoms.proofs.Values.{bits_below}

@@ -1,7 +1,6 @@
-use Rattle.std.proofs.Common.{◌≡◌, ◌+◌, ◌-◌, ◌<◌, List, length, get_or, sym, ap, ◌∙◌, subst, arith}
+use Rattle.std.proofs.Common.{◌≡◌, ◌-◌, ◌<◌, List, length, get_or, sym, ◌∙◌, subst, arith}
 use Rattle.std.proofs.lemmas.List.{get_or_read}
 use Rattle.atoms.specs.Atoms.{bits}
-use Rattle.atoms.specs.Sets.{size}
 use Rattle.atoms.proofs.Members.{disjoint_from-meet}
 use Rattle.walks.specs.Branches.{blank}
 use Rattle.walks.specs.Nodes.{Leads}
