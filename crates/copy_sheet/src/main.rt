@@ -6,13 +6,14 @@ use help::HELP;
 use round_trips::rewrite;
 use std::io;
 use std::io::{Read, Write};
-use usage::{advise, is_to_run};
+use std::process::ExitCode;
+use usage::{advise, early_status};
 
 mod help;
 
-fn main(rt: HostRuntime) -> io::Result<()> {
-    if !is_to_run(&rt, HELP)? {
-        return Ok(());
+fn main(rt: HostRuntime) -> io::Result<ExitCode> {
+    if let Some(status) = early_status(&rt, HELP)? {
+        return Ok(status);
     }
     let mut text = Vec::new(rt.alloc());
     rt.stdin().read_to_end(&mut text)?;
@@ -28,14 +29,15 @@ fn main(rt: HostRuntime) -> io::Result<()> {
     let mut clauses = vec![in rt.alloc(); blank; text.len() / 2]?;
     let mut out = vec![in rt.alloc(); 0; text.len()]?;
     match rewrite(&text, &mut clauses, &mut out) {
-        Ok(size) => rt.stdout().write_all(&out[..size]),
+        Ok(size) => rt.stdout().write_all(&out[..size])?,
         Err(refusal) => {
             advise(&rt, &text);
             let number = refusal.number();
             match refusal.line() {
-                Some(line) => println!(rt; "refused {number} line {line}"),
-                None => println!(rt; "refused {number}"),
+                Some(line) => println!(rt; "refused {number} line {line}")?,
+                None => println!(rt; "refused {number}")?,
             }
         }
     }
+    Ok(ExitCode::SUCCESS)
 }

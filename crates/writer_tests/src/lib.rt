@@ -5,6 +5,6 @@ mod made;
 #[cfg(test)]
 mod reports;
 #[cfg(test)]
-mod sheets;
-#[cfg(test)]
 mod trips;
+#[cfg(test)]
+mod written_sheets;
