@@ -5,11 +5,10 @@ use Rattle.models.proofs.Prefix.{explanations_one}
 use Rattle.clauses.specs.Clauses.{language}
 use Rattle.clauses.proofs.Decided.{laws}
 use Rattle.formats.specs.Outcomes.Outcome.{accepted, refused}
-use Rattle.formats.specs.Outcomes.{Outcome}
 use Rattle.formats.proofs.Once.{one_outcome}
 use Rattle.sheets.specs.Meaning.{row_clauses}
 use Rattle.explaining.specs.Explained.Explained.{a_sheet, no_sheet}
-use Rattle.explaining.specs.Explained.{Explained, Listed, OnePrinted}
+use Rattle.explaining.specs.Explained.{Listed, OnePrinted}
 use Rattle.wording.specs.Words.{refusal_line}
 use Rattle.explaining.specs.Reports.{report_text}
 

@@ -1,6 +1,4 @@
-use Rattle.std.proofs.Common.{[], sym, refl, ap, ◌∙◌, subst}
-use Rattle.clauses.specs.declared.clauses.Clause.{Clause}
-use Rattle.layers.specs.Standing.{observed_over}
+use Rattle.std.proofs.Common.{◌∙◌}
 use Rattle.cases.specs.Cases.{clauses_of}
 use Rattle.explaining.proofs.Requests.{of_source}
 use Rattle.explaining.proofs.listing.list_first.Goals as goal

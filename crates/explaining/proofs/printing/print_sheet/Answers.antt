@@ -1,4 +1,4 @@
-use Rattle.std.proofs.Common.{◌≡◌, length, ◌∙◌, rules}
+use Rattle.std.proofs.Common.{◌≡◌, ◌∙◌, rules}
 use Rattle.indexed.specs.Shelved.{room_of}
 use Rattle.clauses.specs.Tables.{table_clauses}
 use Rattle.sheets.specs.Sheets.{clauses}
