@@ -81,8 +81,8 @@ none_above k s a l h = go (cases_Bool (hasb s a))
     go (inr e) = e
 
 -- a number whose atoms are all below k has k digits
-pub below-from_members : (k s : ℕ) → ((a : ℕ) → has s a → a < k) → s < 2 ^ k
-below-from_members k s h = below_pow s k (λ a e. h a (grind (arith, has_tells s a)))
+pub below_from_members : (k s : ℕ) → ((a : ℕ) → has s a → a < k) → s < 2 ^ k
+below_from_members k s h = below_pow s k (λ a e. h a (grind (arith, has_tells s a)))
 
 -- ---- subsets, and sets with nothing in common
 
@@ -96,23 +96,23 @@ lacks s a n = go (cases_Bool (hasb s a))
     go (inl e) = absurd (n e)
     go (inr e) = e
 
-pub meet-from_sub : (s t : ℕ) → s ⊆ t → bit_and s t ≡ s
-meet-from_sub s t h = same_from_members (bit_and s t) s (λ a. hasb_and s t a ∙ each a (h a))
+pub meet_from_sub : (s t : ℕ) → s ⊆ t → bit_and s t ≡ s
+meet_from_sub s t h = same_from_members (bit_and s t) s (λ a. hasb_and s t a ∙ each a (h a))
   where
     each : (a : ℕ) → (has s a → has t a) → (hasb s a && hasb t a) ≡ hasb s a
     each a f = grind (cases_Bool (hasb s a), cases_Bool (hasb t a), arith)
 
-pub sub_from-meet : (s t : ℕ) → bit_and s t ≡ s → s ⊆ t
-sub_from-meet s t e a h = (and_parts (hasb s a) (hasb t a) (sym (hasb_and s t a) ∙ ap (λ x. hasb x a) e ∙ h)).1
+pub sub_from_meet : (s t : ℕ) → bit_and s t ≡ s → s ⊆ t
+sub_from_meet s t e a h = (and_parts (hasb s a) (hasb t a) (sym (hasb_and s t a) ∙ ap (λ x. hasb x a) e ∙ h)).1
 
-pub meet-from_disjoint : (s t : ℕ) → Disjoint s t → bit_and s t ≡ 0
-meet-from_disjoint s t h = zero_from_empty (bit_and s t) (λ a. lacks (bit_and s t) a (each a))
+pub meet_from_disjoint : (s t : ℕ) → Disjoint s t → bit_and s t ≡ 0
+meet_from_disjoint s t h = zero_from_empty (bit_and s t) (λ a. lacks (bit_and s t) a (each a))
   where
     each : (a : ℕ) → has (bit_and s t) a → ⊥
     each a e = let p = and_parts (hasb s a) (hasb t a) (sym (hasb_and s t a) ∙ e) in h a p.0 p.1
 
-pub disjoint_from-meet : (s t : ℕ) → bit_and s t ≡ 0 → Disjoint s t
-disjoint_from-meet s t e a h k =
+pub disjoint_from_meet : (s t : ℕ) → bit_and s t ≡ 0 → Disjoint s t
+disjoint_from_meet s t e a h k =
     not_has (bit_and s t) a (empty_from_zero (bit_and s t) e a) (hasb_and s t a ∙ and_from (hasb s a) (hasb t a) h k)
 
 pub sub_refl : (s : ℕ) → s ⊆ s
@@ -122,10 +122,10 @@ pub sub_trans : (s t u : ℕ) → s ⊆ t → t ⊆ u → s ⊆ u
 sub_trans s t u p q a h = q a (p a h)
 
 pub sub_antisym : (s t : ℕ) → s ⊆ t → t ⊆ s → s ≡ t
-sub_antisym s t p q = sym (meet-from_sub s t p) ∙ and_comm s t ∙ meet-from_sub t s q
+sub_antisym s t p q = sym (meet_from_sub s t p) ∙ and_comm s t ∙ meet_from_sub t s q
 
 pub sub_le : (s t : ℕ) → s ⊆ t → s ≤ t
-sub_le s t h = omega (arith, meet-from_sub s t h, and_le_r s t)
+sub_le s t h = omega (arith, meet_from_sub s t h, and_le_r s t)
 
 pub sub_zero : (s : ℕ) → 0 ⊆ s
 sub_zero s a h = absurd (not_has 0 a (hasb_zero a) h)
@@ -200,8 +200,8 @@ pub greatest_unique : (s a b : ℕ) → Greatest s a → Greatest s b → a ≡ 
 greatest_unique s a b p q = omega (arith, p.1 b q.0, q.1 a p.0)
 
 -- a set with an atom is not 0, and one that is not 0 has an atom
-pub pos_from-has : (s a : ℕ) → has s a → 0 < s
-pos_from-has s a h = omega (arith, pow_le_has s a h, pow_pos a)
+pub pos_from_has : (s a : ℕ) → has s a → 0 < s
+pos_from_has s a h = omega (arith, pow_le_has s a h, pow_pos a)
 
 -- where `s` is not a subset of `t`, there is an atom that shows it; and so where they are not disjoint
 pub outside : (s t : ℕ) → (bit_and s t ≡ s → ⊥) → (a : ℕ) × has s a × (hasb t a ≡ false)
@@ -265,8 +265,8 @@ pub size_smaller : (s t a : ℕ) → s ⊆ t → has t a → hasb s a ≡ false 
 size_smaller s t a h k n = omega (arith, size-insert s a n, size_sub (insert s a) t (insert_sub s t a h k))
 
 -- a subset with as many atoms is the whole
-pub same_from-size : (s t : ℕ) → s ⊆ t → size t ≤ size s → s ≡ t
-same_from-size s t h l = sub_antisym s t h (λ a e. go a e (cases_Bool (hasb s a)))
+pub same_from_size : (s t : ℕ) → s ⊆ t → size t ≤ size s → s ≡ t
+same_from_size s t h l = sub_antisym s t h (λ a e. go a e (cases_Bool (hasb s a)))
   where
     go : (a : ℕ) → has t a → (hasb s a ≡ true) ⊎ (hasb s a ≡ false) → has s a
     go a e (inl y) = y
@@ -275,7 +275,7 @@ same_from-size s t h l = sub_antisym s t h (λ a e. go a e (cases_Bool (hasb s a
 -- ---- without the least atom
 
 pub meet_one : (s a : ℕ) → has s a → bit_and s (2 ^ a) ≡ 2 ^ a
-meet_one s a h = and_comm s (2 ^ a) ∙ meet-from_sub (2 ^ a) s one
+meet_one s a h = and_comm s (2 ^ a) ∙ meet_from_sub (2 ^ a) s one
   where
     one : 2 ^ a ⊆ s
     one b e = subst (λ x. has s x) (eqb-true a b (sym (hasb_pow a b) ∙ e)) h
@@ -291,7 +291,7 @@ drop_number zero s h m =
     omega (arith, and_step s (s - 1), ap (bit_and (s / 2)) same, and_self (s / 2))
 drop_number (suc a) s h m =
     let even : s % 2 ≡ 0 = lowest (cases_eq (s % 2) 1) in
-    let p : 0 < s = pos_from-has s (suc a) h in
+    let p : 0 < s = pos_from_has s (suc a) h in
     let less : (s - 1) / 2 ≡ s / 2 - 1 = omega arith in
     let ih : bit_and (s / 2) (s / 2 - 1) + 2 ^ a ≡ s / 2 =
     drop_number a (s / 2) (sym (hasb_next s a) ∙ h) (λ c k. le_of_suc-le-suc (m (suc c) (hasb_next s c ∙ k))) in
@@ -367,7 +367,7 @@ insert_same s a h = sym (sub_antisym s (insert s a) (sub_insert s a) (insert_sub
 
 -- a proper subset leaves out an atom, and has fewer
 pub proper_lacks : (s t : ℕ) → s ⊆ t → (s ≡ t → ⊥) → (a : ℕ) × has t a × (hasb s a ≡ false)
-proper_lacks s t h n = outside t s (λ e. n (sub_antisym s t h (sub_from-meet t s e)))
+proper_lacks s t h n = outside t s (λ e. n (sub_antisym s t h (sub_from_meet t s e)))
 
 pub size_proper : (s t : ℕ) → s ⊆ t → (s ≡ t → ⊥) → size s < size t
 size_proper s t h n = let w = proper_lacks s t h n in size_smaller s t w.0 h w.1 w.2

@@ -5,7 +5,7 @@ use lib.Bits.{bit_and, and_mask, and_step}
 use lib.Count.{count_leading_zeros, leading_top}
 use Rattle.std.proofs.lemmas.Bool.{eqb-true, eqb-false}
 use Rattle.atoms.specs.Sets.{digit, hasb, has, ◌⊆◌, Disjoint, Empty, Greatest, minus, size, Dropped}
-use Rattle.atoms.proofs.Members.{empty_from_zero, least_from_members, sub_from-meet, disjoint_from-meet, outside, common, greatest_from_bounds, pos_from-has, drop_least, hasb-drop, remove_less, size-remove}
+use Rattle.atoms.proofs.Members.{empty_from_zero, least_from_members, sub_from_meet, disjoint_from_meet, outside, common, greatest_from_bounds, pos_from_has, drop_least, hasb-drop, remove_less, size-remove}
 
 -- `(s >> a) & 1 == 1`
 pub contains_is : (s a : ℕ) → eqb (bit_and (s / 2 ^ a) 1) 1 ≡ hasb s a
@@ -52,11 +52,11 @@ empty_is s =
 
 -- `s & t == s`
 pub subset_is : (s t : ℕ) → MatchBool (eqb (bit_and s t) s) (s ⊆ t) ((a : ℕ) × has s a × (hasb t a ≡ false))
-subset_is s t = when_equal (bit_and s t) s (s ⊆ t) ((a : ℕ) × has s a × (hasb t a ≡ false)) (sub_from-meet s t) (outside s t)
+subset_is s t = when_equal (bit_and s t) s (s ⊆ t) ((a : ℕ) × has s a × (hasb t a ≡ false)) (sub_from_meet s t) (outside s t)
 
 -- `s & t != 0`
 pub intersects_is : (s t : ℕ) → MatchBool (not (eqb (bit_and s t) 0)) ((a : ℕ) × has s a × has t a) (Disjoint s t)
-intersects_is s t = when_unequal (bit_and s t) 0 ((a : ℕ) × has s a × has t a) (Disjoint s t) (common s t) (disjoint_from-meet s t)
+intersects_is s t = when_unequal (bit_and s t) 0 ((a : ℕ) × has s a × has t a) (Disjoint s t) (common s t) (disjoint_from_meet s t)
 
 -- `k - 1 - leading_zeros(s)`, the greatest atom
 pub leading_greatest : (k s : ℕ) → 0 < s → s < 2 ^ suc k → Greatest s (k - count_leading_zeros (suc k) s)
@@ -69,8 +69,8 @@ leading_greatest k s p l =
 pub dropped_none : (s r : ℕ) → r ≡ s → s ≡ 0 → Dropped s r
 dropped_none s r e z = record {
   none = λ _. e ∙ z;
-  value = λ a h. absurd (gone (pos_from-has s a h.0));
-  members = λ a b h. absurd (gone (pos_from-has s a h.0));
+  value = λ a h. absurd (gone (pos_from_has s a h.0));
+  members = λ a b h. absurd (gone (pos_from_has s a h.0));
   less = λ p. absurd (gone p);
   count = λ p. absurd (gone p);
 }

@@ -30,8 +30,8 @@ module _ (text : List ℕ) (f : NamesLine) (l : FirstLine text f) where
       (record { names = l.names; rest = drop f.size text; begins = l.begins; again = λ a. k (subst Apart (sym names_are) a) })
 
   module _ (count : ℕ) (rows : RowsAt text f.count f.size count) where
-    rows-from : Rows f.count count (drop f.size text)
-    rows-from =
+    rows_from : Rows f.count count (drop f.size text)
+    rows_from =
         rows_made f.count count (drop f.size text) some_names
         (λ i h. row_shift text f.count f.size (place 0 f.count i) (place f.size f.count i) (omega arith) (rows i h))
 
@@ -39,13 +39,13 @@ module _ (text : List ℕ) (f : NamesLine) (l : FirstLine text f) where
     content a = record {
       names_ok = subst Names (sym names_are) l.begins.names_ok;
       apart = a;
-      rows_ok = subst (λ m. AllByRecursion (Row m) (rows_of f.count count (drop f.size text))) (sym named) rows-from.each;
+      rows_ok = subst (λ m. AllByRecursion (Row m) (rows_of f.count count (drop f.size text))) (sym named) rows_from.each;
     }
 
     is : text ≡ render (words text) (rows_of f.count count (drop f.size text)) ++ drop (place f.size f.count count) text
     is = l.begins.is
         ∙ (ap (λ x. line x ++ drop f.size text) (sym names_are)
-        ∙ (ap (λ r. line (words text) ++ r) (rows-from.is ∙ ap (λ r. flat_map clause_line (rows_of f.count count (drop f.size text)) ++ r) (drop-drop (count * (2 * f.count)) f.size text))
+        ∙ (ap (λ r. line (words text) ++ r) (rows_from.is ∙ ap (λ r. flat_map clause_line (rows_of f.count count (drop f.size text)) ++ r) (drop-drop (count * (2 * f.count)) f.size text))
         ∙ sym (append_assoc (line (words text)) (flat_map clause_line (rows_of f.count count (drop f.size text))) (drop (place f.size f.count count) text))))
 
   pub refused_clause : (at : ℕ) → length text ≤ longest → Apart (words text) → Stops text f.count f.size at → Says text (outcome_of (Clause at))
@@ -58,7 +58,7 @@ module _ (text : List ℕ) (f : NamesLine) (l : FirstLine text f) where
         rest = drop p text;
         content = content s.count s.rows a;
         is = is s.count s.rows;
-        number = omega (arith, s.at_is, (rows-from s.count s.rows).size);
+        number = omega (arith, s.at_is, (rows_from s.count s.rows).size);
         more = omega (arith, s.more, length-drop p text);
         none = subst (λ m. NoRow m (drop p text)) (sym named) (no_row text f.count p some_names s.none);
       })

@@ -6,7 +6,7 @@ use Rattle.std.proofs.ByRecursion.{All-push, All-get_or}
 use Rattle.std.proofs.lemmas.List.{append-nil, append_assoc, length-append, length_push, length-drop, drop_more, drop_all, drop_at, drop-drop, take-append-drop, get_or_append_left, get_or_at, flat_map_more}
 use Rattle.std.proofs.lemmas.Slice.{between_to_end}
 use Rattle.std.proofs.lemmas.Bool.{cond-true, cond-false, eq-eqb, ne_eqb, cases_lt, both_ways}
-use Rattle.formats.specs.Format.{most-names, NameByte, Name, line, Apart, Begins}
+use Rattle.formats.specs.Format.{most_names, NameByte, Name, line, Apart, Begins}
 use Rattle.formats.specs.Outcomes.{NoNames}
 use Rattle.formats.specs.Places.{FirstLine, words_from, words, WordTo, Lacks, FirstAt, WordIs}
 
@@ -324,7 +324,7 @@ module _ (text : List ℕ) (p k e : ℕ) (s : Naming text p k) (w : WordTo text 
         length-append (flat_map spaced s.counted.pre) (drop p text),
       )
 
-  pub naming_end : (count : ℕ) → count ≡ k + 1 → count ≤ most-names → (e ≡ length text → ⊥) → get_or text e 0 ≡ 10 → Name (between p e text) → FirstLine text (record { count = count; size = e + 1 })
+  pub naming_end : (count : ℕ) → count ≡ k + 1 → count ≤ most_names → (e ≡ length text → ⊥) → get_or text e 0 ≡ 10 → Name (between p e text) → FirstLine text (record { count = count; size = e + 1 })
   naming_end count z few h n m =
       let pre : List (List ℕ) = s.counted.pre in
       let names : List (List ℕ) = pre ++ between p e text ∷ [] in
@@ -341,7 +341,7 @@ module _ (text : List ℕ) (p k e : ℕ) (s : Naming text p k) (w : WordTo text 
       }
 
 -- more words than names may stand there
-pub naming_many : (text : List ℕ) (p : ℕ) → Naming text p most-names → NoNames text
+pub naming_many : (text : List ℕ) (p : ℕ) → Naming text p most_names → NoNames text
 naming_many text p s names rest b =
     omega (
       arith,

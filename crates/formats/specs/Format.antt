@@ -6,8 +6,8 @@ use Rattle.std.specs.List.{flat_map, AllByRecursion}
 abbrev pub longest : ℕ
 longest = 65535
 
-abbrev pub most-names : ℕ
-most-names = 64
+abbrev pub most_names : ℕ
+most_names = 64
 
 abbrev pub longest_name : ℕ
 longest_name = 16
@@ -41,7 +41,7 @@ clause_line (v ∷ x ∷ vs) = v ∷ 32 ∷ clause_line (x ∷ vs)
 -- the names that line 1 may hold, repeated or not
 pub record Names (names : List (List ℕ)) : Type 0 where
   pub some : 1 ≤ length names
-  pub few : length names ≤ most-names
+  pub few : length names ≤ most_names
   pub each : AllByRecursion Name names
 
 -- no name stands twice

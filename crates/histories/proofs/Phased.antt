@@ -63,15 +63,15 @@ module _ (cs : List Clause) (places : ℕ) where
   step_standing (listing os out) Request r w = refl
   step_standing (listing os out) Close r w = refl
 
-  standing-from : (p : Phase) (es : List Entry) → LawfulFrom cs places p es → seen_by (phase_from p es) ≡ standing_from (seen_by p) es
-  standing-from p [] l = refl
-  standing-from p (e ∷ es) l =
-      standing-from (after p e.call e.answer) es l.1
+  standing_from_lem : (p : Phase) (es : List Entry) → LawfulFrom cs places p es → seen_by (phase_from p es) ≡ standing_from (seen_by p) es
+  standing_from_lem p [] l = refl
+  standing_from_lem p (e ∷ es) l =
+      standing_from_lem (after p e.call e.answer) es l.1
       ∙ ap (λ (os : List Observation). standing_from os es) (step_standing p e.call e.answer l.0)
 
   -- the observations of the phase are those that stand
   pub standing_is : (h : List Entry) → Lawful cs places h → seen_by (phase_after h) ≡ standing h
-  standing_is h l = standing-from (resting []) h l
+  standing_is h l = standing_from_lem (resting []) h l
 
   open_rests : (q : Phase) (k : Call) (r : Answer) → k ≡ Open → Right cs places q k r → q ≡ resting (seen_by q)
   open_rests (resting os) k r e w = refl
@@ -152,20 +152,20 @@ module _ (cs : List Clause) (places : ℕ) where
   pub going_opened : (h : List Entry) → Lawful cs places h → Going (phase_after h) → Opened h
   going_opened h l g = gate_from (resting []) h l g
 
-  turn-from : (P : Type 0) (p : Phase) (k : Call) (r : Answer) → (P → Going p) → (Going p → P) → Right cs places p k r → Turn P k
-  turn-from P (resting os) (Observe a q) r to from w = to
-  turn-from P (resting os) Withdraw r to from w = to
-  turn-from P (resting os) Open r to from w = to
-  turn-from P (resting os) Request r to from w = absurd w
-  turn-from P (resting os) Close r to from w = absurd w
-  turn-from P (listing os out) (Observe a q) r to from w = absurd w
-  turn-from P (listing os out) Withdraw r to from w = absurd w
-  turn-from P (listing os out) Open r to from w = absurd w
-  turn-from P (listing os out) Request r to from w = from tt
-  turn-from P (listing os out) Close r to from w = from tt
+  turn_from : (P : Type 0) (p : Phase) (k : Call) (r : Answer) → (P → Going p) → (Going p → P) → Right cs places p k r → Turn P k
+  turn_from P (resting os) (Observe a q) r to from w = to
+  turn_from P (resting os) Withdraw r to from w = to
+  turn_from P (resting os) Open r to from w = to
+  turn_from P (resting os) Request r to from w = absurd w
+  turn_from P (resting os) Close r to from w = absurd w
+  turn_from P (listing os out) (Observe a q) r to from w = absurd w
+  turn_from P (listing os out) Withdraw r to from w = absurd w
+  turn_from P (listing os out) Open r to from w = absurd w
+  turn_from P (listing os out) Request r to from w = from tt
+  turn_from P (listing os out) Close r to from w = from tt
 
   pub turn : (h : List Entry) → Lawful cs places h → (k : Call) (r : Answer) → Right cs places (phase_after h) k r → InTurn h k
-  turn h l k r w = turn-from (Opened h) (phase_after h) k r (opened_going h l) (going_opened h l) w
+  turn h l k r w = turn_from (Opened h) (phase_after h) k r (opened_going h l) (going_opened h l) w
 
   barred_from : (P : Type 0) (p : Phase) (k : Call) → (P → Going p) → (Going p → P) → Barred p k → Turn P k → ⊥
   barred_from P (resting os) (Observe a q) to from b t = b

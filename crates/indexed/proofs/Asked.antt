@@ -1,7 +1,7 @@
 -- The question by chains: the atoms of `s` one after another, of which the set `left` is still to come.
 use Rattle.std.proofs.Common.{◌≡◌, ℕ, ◌<◌, ltb, ◌≢◌, List, ◌∙◌, inl, inr, arith}
 use mathlib.Core.List.{Memᴰ}
-use Rattle.atoms.proofs.Members.{pos_from-has}
+use Rattle.atoms.proofs.Members.{pos_from_has}
 use Rattle.atoms.specs.Atoms.{bits, width}
 use Rattle.atoms.specs.Sets.{Dropped, Least, ◌⊆◌, has, hasb}
 use Rattle.atoms.specs.declared.AtomSet.{AtomSet}
@@ -28,5 +28,5 @@ module _ (ts : List AtomSet) (s : AtomSet) where
   pub asked_all : (left : AtomSet) → bits left ≡ 0 → NoneIn ts width s → Asked ts s left → Holds ts s → ⊥
   asked_all left done empties asked (t, among, sub) = elim (cases_eq (bits t) 0) [
     | inl e ↦ empties t among (chain_empty t e) sub
-    | inr ne ↦ omega (arith, pos_from-has (bits left) (chain_of t) (asked t among sub (omega arith)))
+    | inr ne ↦ omega (arith, pos_from_has (bits left) (chain_of t) (asked t among sub (omega arith)))
   ]

@@ -2,7 +2,7 @@
 use Rattle.std.proofs.Common.{◌≡◌, ℕ, ◌+◌, ◌<◌, ◌⊎◌, List, [], ◌∷◌, ◌++◌, length, Some, None, Option, sym, refl, ap, ◌∙◌, subst, inl, inr, arith}
 use mathlib.Core.List.Memᴰ
 use mathlib.Core.List.{Memᴰ}
-use Rattle.atoms.proofs.Members.{hasb_zero, minus_sub, pos_from-has, remove_less, size_smaller, size_zero, sub_zero}
+use Rattle.atoms.proofs.Members.{hasb_zero, minus_sub, pos_from_has, remove_less, size_smaller, size_zero, sub_zero}
 use Rattle.atoms.specs.Atoms.{index}
 use Rattle.atoms.specs.Sets.{Dropped, Least, has, remove, size}
 use Rattle.clauses.proofs.Decided.{laws}
@@ -58,7 +58,7 @@ module _ (cs : List Clause) (s : ℕ) where
       → Progress left rs → Least left (index r.atom) → Dropped left next → Tells cs s r → Progress next (rs ++ r ∷ [])
   progress_more left next rs r p l d t =
       let more = length_push rs r in
-      let less = d.count (pos_from-has left (index r.atom) l.0) in
+      let less = d.count (pos_from_has left (index r.atom) l.0) in
       let many = p.many in
       record {
         passed =

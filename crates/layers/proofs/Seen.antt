@@ -30,8 +30,8 @@ remove-insert s a n =
     each : (b : ℕ) → ((hasb s b || eqb a b) && not (eqb a b)) ≡ hasb s b
     each b = grind (arith, nat_tests, cases_Bool (hasb s b), cases_eq a b, n)
 
-size-insert_le : (s a : ℕ) → size (insert s a) ≤ size s + 1
-size-insert_le s a = go (cases_Bool (hasb s a))
+size_insert_le : (s a : ℕ) → size (insert s a) ≤ size s + 1
+size_insert_le s a = go (cases_Bool (hasb s a))
   where
     go : (hasb s a ≡ true) ⊎ (hasb s a ≡ false) → size (insert s a) ≤ size s + 1
     go (inl h) = omega (arith, ap size (insert_same s a h))
@@ -40,7 +40,7 @@ size-insert_le s a = go (cases_Bool (hasb s a))
 -- no more atoms than observations
 size_atoms : (os : List Observation) → size (atoms_of os) ≤ length os
 size_atoms [] = omega (arith, size_zero)
-size_atoms (o ∷ os) = omega (arith, size-insert_le (atoms_of os) (index o.atom), size_atoms os)
+size_atoms (o ∷ os) = omega (arith, size_insert_le (atoms_of os) (index o.atom), size_atoms os)
 
 -- one more observation
 pub atoms_push : (os : List Observation) (o : Observation) → atoms_of (os ++ o ∷ []) ≡ insert (atoms_of os) (index o.atom)
@@ -54,7 +54,7 @@ module _ (os : List Observation) (o : Observation) (distinct : size (atoms_of (o
   grows = ap size (sym (atoms_push os o)) ∙ distinct
 
   pub distinct_pop : size (atoms_of os) ≡ length os
-  distinct_pop = omega (arith, grows, size-insert_le (atoms_of os) (index o.atom), size_atoms os)
+  distinct_pop = omega (arith, grows, size_insert_le (atoms_of os) (index o.atom), size_atoms os)
 
   pub atoms_pop : remove (atoms_of (os ++ o ∷ [])) (index o.atom) ≡ atoms_of os
   atoms_pop =

@@ -65,8 +65,8 @@ module _ {S C : Type 0} {L : Language S C} (laws : Laws L) where
       go (inl f) = within_not (L.body c) s (not-false _ f) b.whole
       go (inr f) = let r = meets_at (L.head c) s (not-false _ f) in b.none r.0 r.1 r.2
 
-  pub breaks-from : (s : S) (c : C) → Breaks L s c → breaks L s c ≡ true
-  breaks-from s c b = go (cases_Bool (breaks L s c))
+  pub breaks_from : (s : S) (c : C) → Breaks L s c → breaks L s c ≡ true
+  breaks_from s c b = go (cases_Bool (breaks L s c))
     where
       go : (breaks L s c ≡ true) ⊎ (breaks L s c ≡ false) → breaks L s c ≡ true
       go (inl e) = e
@@ -81,7 +81,7 @@ module _ {S C : Type 0} {L : Language S C} (laws : Laws L) where
 
   -- the first clause broken: one step of the list
   pub first_here : (c : C) (cs : List C) (s : S) → Breaks L s c → first_broken L (c ∷ cs) s ≡ Some c
-  first_here c cs s b = cond-true (breaks L s c) (Some c) (first_broken L cs s) (breaks-from s c b)
+  first_here c cs s b = cond-true (breaks L s c) (Some c) (first_broken L cs s) (breaks_from s c b)
 
   pub first_past : (c : C) (cs : List C) (s : S) → ¬ Breaks L s c → first_broken L (c ∷ cs) s ≡ first_broken L cs s
   first_past c cs s n = cond-false (breaks L s c) (Some c) (first_broken L cs s) (breaks_not s c n)

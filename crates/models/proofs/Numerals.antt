@@ -5,10 +5,10 @@ use Rattle.std.proofs.lemmas.Bool.{eq-eqb, ne_eqb, eqb-true, eqb-false, cases_Bo
 use Rattle.models.specs.Language.{Laws}
 use Rattle.models.specs.Models.{breaks, sticks_out}
 use Rattle.models.proofs.Tests.{same_test}
-use Rattle.models.proofs.Broken.{breaks_true, breaks-from, within_from, within_not}
+use Rattle.models.proofs.Broken.{breaks_true, breaks_from, within_from, within_not}
 use Rattle.atoms.specs.Sets.{hasb, has, ◌⊆◌, Least}
 use Rattle.models.specs.Numbers.{digits_of, numbers}
-use Rattle.atoms.proofs.Members.{hasb_zero, hasb_next, hasb-insert, same_from_members, meet-from_sub, sub_from-meet, meet-from_disjoint, disjoint_from-meet, remove_is, drop_least, lacks, hasb_pow}
+use Rattle.atoms.proofs.Members.{hasb_zero, hasb_next, hasb-insert, same_from_members, meet_from_sub, sub_from_meet, meet_from_disjoint, disjoint_from_meet, remove_is, drop_least, lacks, hasb_pow}
 
 digits_step : (n s : ℕ) → eqb s 0 ≡ false → digits_of (suc n) s ≡ suc (digits_of n (s / 2))
 digits_step n s e = rw (e, digits_of)
@@ -41,23 +41,23 @@ module _ {C : Type 0} (body head : C → ℕ) where
   breaks_and s c =
       same_test (eqb (bit_and (body c) s) (body c) && eqb (bit_and (head c) s) 0) (breaks (numbers body head) s c)
       (λ e. let k = and_parts (eqb (bit_and (body c) s) (body c)) (eqb (bit_and (head c) s) 0) e in
-      breaks-from numbers_laws s c
+      breaks_from numbers_laws s c
       (record {
-        whole = sub_from-meet (body c) s (eqb-true (bit_and (body c) s) (body c) k.0);
+        whole = sub_from_meet (body c) s (eqb-true (bit_and (body c) s) (body c) k.0);
         none =
-            disjoint_from-meet (head c) s (eqb-true (bit_and (head c) s) 0 k.1);
+            disjoint_from_meet (head c) s (eqb-true (bit_and (head c) s) 0 k.1);
       }))
       (λ e. let b = breaks_true numbers_laws s c e in
       and_from (eqb (bit_and (body c) s) (body c)) (eqb (bit_and (head c) s) 0)
-      (eq-eqb (bit_and (body c) s) (body c) (meet-from_sub (body c) s b.whole))
-      (eq-eqb (bit_and (head c) s) 0 (meet-from_disjoint (head c) s b.none)))
+      (eq-eqb (bit_and (body c) s) (body c) (meet_from_sub (body c) s b.whole))
+      (eq-eqb (bit_and (head c) s) 0 (meet_from_disjoint (head c) s b.none)))
 
 -- a set less its least atom leaves that atom alone as the difference
 pub least_alone : (s a : ℕ) → Least s a → s - bit_and s (s - 1) ≡ 2 ^ a
 least_alone s a l = omega (arith, drop_least s a l, remove_is s a l.0)
 
 pub one_apart : (a t : ℕ) → eqb (bit_and (2 ^ a) t) 0 ≡ true → hasb t a ≡ false
-one_apart a t e = lacks t a (disjoint_from-meet (2 ^ a) t (eqb-true (bit_and (2 ^ a) t) 0 e) a (hasb_pow a a ∙ eq-eqb a a refl))
+one_apart a t e = lacks t a (disjoint_from_meet (2 ^ a) t (eqb-true (bit_and (2 ^ a) t) 0 e) a (hasb_pow a a ∙ eq-eqb a a refl))
 
 pub one_meets : (a t : ℕ) → eqb (bit_and (2 ^ a) t) 0 ≡ false → has t a
 one_meets a t e = go (cases_Bool (hasb t a))
@@ -66,16 +66,16 @@ one_meets a t e = go (cases_Bool (hasb t a))
     go (inl h) = h
     go (inr n) =
         absurd (eqb-false (bit_and (2 ^ a) t) 0 e
-        (meet-from_disjoint (2 ^ a) t
+        (meet_from_disjoint (2 ^ a) t
         (λ b h k. both_ways (hasb t a) n (subst (λ (x : ℕ). has t x) (sym (eqb-true a b (sym (hasb_pow a b) ∙ h))) k))))
 
 -- a set is within another: the test by `&`
 pub inside_and : {C : Type 0} (body head : C → ℕ) (s t : ℕ) → eqb (bit_and s t) s ≡ not (sticks_out (numbers body head) s t)
 inside_and body head s t =
     same_test (eqb (bit_and s t) s) (not (sticks_out (numbers body head) s t))
-    (λ e. there (cases_Bool (sticks_out (numbers body head) s t)) (sub_from-meet s t (eqb-true (bit_and s t) s e)))
+    (λ e. there (cases_Bool (sticks_out (numbers body head) s t)) (sub_from_meet s t (eqb-true (bit_and s t) s e)))
     (λ e. eq-eqb (bit_and s t) s
-    (meet-from_sub s t (within_from (numbers_laws body head) s t (not-true (sticks_out (numbers body head) s t) e))))
+    (meet_from_sub s t (within_from (numbers_laws body head) s t (not-true (sticks_out (numbers body head) s t) e))))
   where
     there : (sticks_out (numbers body head) s t ≡ true) ⊎ (sticks_out (numbers body head) s t ≡ false) → s ⊆ t →
         not (sticks_out (numbers body head) s t) ≡ true

@@ -5,7 +5,7 @@ use Rattle.std.proofs.lemmas.Bool.{cases_lt, cases_eq, eq-eqb, eqb-true, ne_eqb,
 use Rattle.atoms.specs.Atoms.{bits, set_of, width}
 use Rattle.atoms.specs.Sets.{hasb}
 use Rattle.atoms.specs.declared.AtomSet.{AtomSet}
-use Rattle.atoms.proofs.Members.{hasb_first, hasb_next, hasb_zero, same_from_members, below-from_members}
+use Rattle.atoms.proofs.Members.{hasb_first, hasb_next, hasb_zero, same_from_members, below_from_members}
 use Rattle.atoms.proofs.Values.{bits-set_of, value_is}
 use Rattle.clauses.specs.Sources.{numbered}
 use Rattle.clauses.specs.declared.clauses.Clause.{Clause}
@@ -42,7 +42,7 @@ hasb-marked v (x ∷ row) (suc k) n =
     hasb_next (marked v (x ∷ row)) k ∙ (ap (λ s. hasb s k) (marked_next v x row) ∙ hasb-marked v row k n)
 
 marked-below : (v : ℕ) (row : List ℕ) → (0 ≡ v → ⊥) → length row ≤ width → marked v row < 2 ^ width
-marked-below v row n h = below-from_members width (marked v row) (λ k e. within k (cases_lt k (length row)) (eqb-true (get_or row k 0) v (sym (hasb-marked v row k n) ∙ e)))
+marked-below v row n h = below_from_members width (marked v row) (λ k e. within k (cases_lt k (length row)) (eqb-true (get_or row k 0) v (sym (hasb-marked v row k n) ∙ e)))
   where
     within : (k : ℕ) → (k < length row) ⊎ (length row ≤ k) → get_or row k 0 ≡ v → k < width
     within k c e = ⊎_elim (λ (l : k < length row). omega arith) (λ (l : length row ≤ k). absurd (n (sym (get_or_past row k 0 l) ∙ e))) c

@@ -1,6 +1,6 @@
 // The struct `Sheet`, and what holds of its fields.
 ghost use Rattle.std.specs.Prelude.{◌≤◌, length};
-ghost use Rattle.formats.specs.Format.{longest, most-names};
+ghost use Rattle.formats.specs.Format.{longest, most_names};
 ghost use Rattle.sheets.specs.Held.{Bare, Ends, Named, Starts, Whole};
 
 use formats::Layout;
@@ -11,7 +11,7 @@ pub struct Sheet<'a> {
     pub(crate) text: &'a [u8],
     pub(crate) layout: Layout,
     ghost short: { length text.now ≤ longest },
-    ghost few: { layout.names ≤ most-names },
+    ghost few: { layout.names ≤ most_names },
     ghost ends: { Ends text.now layout },
     ghost bare: { Bare layout },
     ghost named: { Named text.now layout },

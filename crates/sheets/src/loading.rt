@@ -1,6 +1,6 @@
 // Loading a sheet, and what it then holds.
 ghost use Rattle.std.specs.Prelude.{◌≡◌, ◌≤◌, [], length, MatchResult};
-ghost use Rattle.formats.specs.Format.{longest, most-names};
+ghost use Rattle.formats.specs.Format.{longest, most_names};
 ghost use Rattle.formats.specs.Outcomes.Outcome.{accepted};
 ghost use Rattle.formats.specs.Outcomes.{Says, outcome_of};
 ghost use Rattle.sheets.specs.Sheets.{clauses, names, rows};
@@ -37,7 +37,7 @@ impl<'a> Sheet<'a> {
     // How many names the sheet has.
     pub fn name_count(&self) -> usize
         ensures value { result ≡ length (names self.now) }
-        ensures bound { result ≤ most-names }
+        ensures bound { result ≤ most_names }
     {
         self.layout.names
     }

@@ -1,7 +1,7 @@
 // Looking up names, atoms and clauses in a sheet.
 ghost use Rattle.std.specs.Prelude.{◌≡◌, ◌*◌, ◌<◌, ◌≤◌, [], length, MatchOption, slice_index_or};
 ghost use Rattle.atoms.specs.Atoms.{index};
-ghost use Rattle.formats.specs.Format.{clause_line, line, longest, most-names};
+ghost use Rattle.formats.specs.Format.{clause_line, line, longest, most_names};
 ghost use Rattle.formats.specs.Places.{FirstAt, Lacks, WordIs, values};
 ghost use Rattle.sheets.specs.Meaning.{NoneOnLine, OnLine, row_clause};
 ghost use Rattle.sheets.specs.Sheets.{clauses, names, rows};
@@ -87,7 +87,7 @@ impl<'a> Sheet<'a> {
 
 // The clause of clause line `i`, from 0, which has `n` values.
 fn read_clause(line: &[u8], n: usize, i: usize) -> Clause
-    requires { (length line.now ≡ 2 * n) × ((n ≤ most-names) × (i ≤ longest)) }
+    requires { (length line.now ≡ 2 * n) × ((n ≤ most_names) × (i ≤ longest)) }
     ensures { result ≡ row_clause i (values n line.now) }
 {
     let mut body = AtomSet::empty();

@@ -8,17 +8,17 @@ use Rattle.models.specs.Language.{Language, Laws}
 use Rattle.models.specs.Models.{In, Within, Model, Minimal, first_broken, Greatest, PrecedesFrom, differ, Precedes}
 use Rattle.models.specs.Search.{unmarked, Clear, Region}
 use Rattle.std.proofs.lemmas.Bool.{both_ways, cases_order}
-use Rattle.theorems.specs.Splitting.{Node, root, child, Minimal-at, Split, Leaf}
+use Rattle.theorems.specs.Splitting.{Node, root, child, MinimalAt, Split, Leaf}
 
 module _ {S C : Type 0} {L : Language S C} (laws : Laws L) (cs : List C) where
   -- the minimal models of a node are of its region
-  region : {taken : S} {absent : ℕ → Bool} {m : S} → Minimal-at L cs taken absent m → Region L cs taken absent m
+  region : {taken : S} {absent : ℕ → Bool} {m : S} → MinimalAt L cs taken absent m → Region L cs taken absent m
   region h = record { model = h.minimal.model; holds = h.includes; clear = h.avoids }
 
-  at : {taken : S} {absent : ℕ → Bool} {m : S} → Minimal L cs m → Region L cs taken absent m → Minimal-at L cs taken absent m
+  at : {taken : S} {absent : ℕ → Bool} {m : S} → Minimal L cs m → Region L cs taken absent m → MinimalAt L cs taken absent m
   at h r = record { minimal = h; includes = r.holds; avoids = r.clear }
 
-  pub at_root : (m : S) → Minimal L cs m → Minimal-at L cs L.empty unmarked m
+  pub at_root : (m : S) → Minimal L cs m → MinimalAt L cs L.empty unmarked m
   at_root m h =
       record {
         minimal = h;
@@ -78,7 +78,7 @@ module _ {S C : Type 0} {L : Language S C} (laws : Laws L) (cs : List C) where
   node_leaf taken absent node model =
       record { only = λ m h. sym (h.minimal.least taken model h.includes); when = (there, back) }
     where
-      there : Minimal-at L cs taken absent taken →
+      there : MinimalAt L cs taken absent taken →
           Clear L taken absent × ((m : S) → Minimal L cs m → Precedes L cs m taken → ¬ Within L m taken)
       there h = (
         h.avoids,
@@ -87,14 +87,14 @@ module _ {S C : Type 0} {L : Language S C} (laws : Laws L) (cs : List C) where
       )
 
       back : Clear L taken absent × ((m : S) → Minimal L cs m → Precedes L cs m taken → ¬ Within L m taken) →
-          Minimal-at L cs taken absent taken
+          MinimalAt L cs taken absent taken
       back h = go (includes_minimal laws cs taken model)
         where
-          go : (m : S) × Minimal L cs m × Within L m taken → Minimal-at L cs taken absent taken
+          go : (m : S) × Minimal L cs m × Within L m taken → MinimalAt L cs taken absent taken
           go k = pick
               (earlier node taken k.0 (record { model = model; holds = λ a i. i; clear = h.0 }) k.1.model k.2)
             where
-              pick : Precedes L cs k.0 taken ⊎ Within L taken k.0 → Minimal-at L cs taken absent taken
+              pick : Precedes L cs k.0 taken ⊎ Within L taken k.0 → MinimalAt L cs taken absent taken
               pick (inl o) = absurd (h.1 k.0 k.1 o k.2)
               pick (inr i) =
                   record {

@@ -11,7 +11,7 @@ use Rattle.models.proofs.Total.{total}
 use Rattle.models.specs.Lister.{explanations}
 use Rattle.models.specs.Models.{Precedes}
 use Rattle.theorems.proofs.Nodes.{at_root, node_splits, node_leaf}
-use Rattle.theorems.specs.Lists.{StrictOrder, OneList, ComputedList, Minimal-inside, EmptyList, FirstBroken, Fronts}
+use Rattle.theorems.specs.Lists.{StrictOrder, OneList, ComputedList, MinimalInside, EmptyList, FirstBroken, Fronts}
 use Rattle.theorems.specs.Splitting.{Splitting}
 
 pub first_broken_lem : FirstBroken
@@ -41,7 +41,7 @@ computed_list cs = explanations_right laws cs
 pub one_list : OneList
 one_list cs = (explanations language cs, explanations_right laws cs, explanations_only laws cs)
 
-pub minimal_inside : Minimal-inside
+pub minimal_inside : MinimalInside
 minimal_inside cs = includes_minimal laws cs
 
 pub empty_list : EmptyList

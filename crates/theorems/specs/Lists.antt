@@ -29,8 +29,8 @@ abbrev pub ComputedList : Type 0
 ComputedList = (cs : List Clause) → Explanations language cs (explanations language cs)
 
 -- every model includes a minimal model
-abbrev pub Minimal-inside : Type 0
-Minimal-inside = (cs : List Clause) (t : ℕ) → Model language cs t → (m : ℕ) × Minimal language cs m × Within language m t
+abbrev pub MinimalInside : Type 0
+MinimalInside = (cs : List Clause) (t : ℕ) → Model language cs t → (m : ℕ) × Minimal language cs m × Within language m t
 
 -- the list of explanations is empty exactly when the clauses have no model
 abbrev pub EmptyList : Type 0

@@ -17,7 +17,7 @@ module _ {S C : Type 0} (L : Language S C) where
         → In L (L.head c) h → Node cs (L.with taken h) (marked L absent c h)
 
   -- `m` is a minimal model of the node: it includes the atoms taken and has no atom marked absent
-  pub record Minimal-at (cs : List C) (taken : S) (absent : ℕ → Bool) (m : S) : Type 0 where
+  pub record MinimalAt (cs : List C) (taken : S) (absent : ℕ → Bool) (m : S) : Type 0 where
     pub minimal : Minimal L cs m
     pub includes : Within L taken m
     pub avoids : Clear L m absent
@@ -26,29 +26,29 @@ module _ {S C : Type 0} (L : Language S C) where
   -- and those of the child of a smaller atom come first. Each child takes an atom that was not taken.
   pub record Split (cs : List C) (taken : S) (absent : ℕ → Bool) (c : C) : Type 0 where
     pub covers :
-        (m : S) → Minimal-at cs taken absent m
-        → (h : ℕ) × In L (L.head c) h × Minimal-at cs (L.with taken h) (marked L absent c h) m
-    pub inside : (h : ℕ) (m : S) → Minimal-at cs (L.with taken h) (marked L absent c h) m → Minimal-at cs taken absent m
+        (m : S) → MinimalAt cs taken absent m
+        → (h : ℕ) × In L (L.head c) h × MinimalAt cs (L.with taken h) (marked L absent c h) m
+    pub inside : (h : ℕ) (m : S) → MinimalAt cs (L.with taken h) (marked L absent c h) m → MinimalAt cs taken absent m
     pub apart :
-        (h k : ℕ) (m : S) → In L (L.head c) h → In L (L.head c) k → Minimal-at cs (L.with taken h) (marked L absent c h) m
-        → Minimal-at cs (L.with taken k) (marked L absent c k) m → h ≡ k
+        (h k : ℕ) (m : S) → In L (L.head c) h → In L (L.head c) k → MinimalAt cs (L.with taken h) (marked L absent c h) m
+        → MinimalAt cs (L.with taken k) (marked L absent c k) m → h ≡ k
     pub ordered :
         (h k : ℕ) (m n : S) → In L (L.head c) h → In L (L.head c) k → h < k
-        → Minimal-at cs (L.with taken h) (marked L absent c h) m → Minimal-at cs (L.with taken k) (marked L absent c k) n
+        → MinimalAt cs (L.with taken h) (marked L absent c h) m → MinimalAt cs (L.with taken k) (marked L absent c k) n
         → Precedes L cs m n
     pub new : (h : ℕ) → In L (L.head c) h → ¬ In L taken h
 
   -- A node whose atoms are a model: it has no minimal model but that. And that is one of its minimal models exactly when it has
   -- no atom marked absent and includes no minimal model that comes before it.
   pub record Leaf (cs : List C) (taken : S) (absent : ℕ → Bool) : Type 0 where
-    pub only : (m : S) → Minimal-at cs taken absent m → m ≡ taken
+    pub only : (m : S) → MinimalAt cs taken absent m → m ≡ taken
     pub when :
-        Minimal-at cs taken absent taken
+        MinimalAt cs taken absent taken
         ↔ (Clear L taken absent × ((m : S) → Minimal L cs m → Precedes L cs m taken → ¬ Within L m taken))
 
 -- the root has all minimal models, a node whose atoms break a clause splits, and a node whose atoms are a model is a leaf
 pub record Splits (cs : List Clause) : Type 0 where
-  pub all : (m : ℕ) → Minimal language cs m → Minimal-at language cs 0 unmarked m
+  pub all : (m : ℕ) → Minimal language cs m → MinimalAt language cs 0 unmarked m
   pub split :
       (taken : ℕ) (absent : ℕ → Bool) (c : Clause) → Node language cs taken absent → first_broken language cs taken ≡ Some c
       → Split language cs taken absent c

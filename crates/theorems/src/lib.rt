@@ -1,6 +1,6 @@
 #![tactic(auto)]
 // The theorems about minimal models and their list, each on the contract of a function. The functions do nothing.
-ghost use Rattle.theorems.specs.Lists.{BySides, ComputedList, EmptyList, FirstBroken, Fronts, Minimal-inside, OneList, StrictOrder};
+ghost use Rattle.theorems.specs.Lists.{BySides, ComputedList, EmptyList, FirstBroken, Fronts, MinimalInside, OneList, StrictOrder};
 ghost use Rattle.theorems.specs.Splitting.{Splitting};
 ghost use Rattle.theorems.specs.Worked.{Worked};
 
@@ -26,7 +26,7 @@ pub fn computed_list()
 
 // Every model includes a minimal model.
 pub fn minimal_inside()
-    ensures { Minimal-inside }
+    ensures { MinimalInside }
 {}
 
 // The list of explanations is empty exactly when the clauses have no model.

@@ -5,7 +5,7 @@ use Rattle.std.proofs.lemmas.Bool.{and_parts}
 use Rattle.atoms.specs.Atoms.{bits}
 use Rattle.atoms.specs.Sets.{hasb, Dropped, meet, size, ◌⊆◌}
 use Rattle.atoms.specs.declared.AtomSet.{AtomSet}
-use Rattle.atoms.proofs.Members.{disjoint_from-meet, least_from_members, meet-from_disjoint}
+use Rattle.atoms.proofs.Members.{disjoint_from_meet, least_from_members, meet_from_disjoint}
 use Rattle.models.specs.Rows.{stacked}
 use Rattle.walks.specs.Branches.{Apart, blank, Live, Sized}
 use Rattle.walks.specs.Walks.{Advanced, narrowed}
@@ -60,8 +60,8 @@ module _ (bs : List Branch) (n : ℕ) (pos : 0 < n) (fits : n ≤ length bs) (e 
   pub apart_stop : Live bs n → Apart bs n → Apart written n
   apart_stop live apart =
       each_top bs blank (λ k b. meet (bits b.taken) (bits b.left) ≡ 0) n (narrowed top x) pos fits apart
-      (meet-from_disjoint (bits top.taken) (bits x)
-      (λ a h k. disjoint_from-meet (bits top.taken) (bits top.left) (subst (λ (b : Branch). meet (bits b.taken) (bits b.left) ≡ 0) same (apart (n - 1) (omega arith))) a h
+      (meet_from_disjoint (bits top.taken) (bits x)
+      (λ a h k. disjoint_from_meet (bits top.taken) (bits top.left) (subst (λ (b : Branch). meet (bits b.taken) (bits b.left) ≡ 0) same (apart (n - 1) (omega arith))) a h
       (dropped_sub (bits top.left) (bits x) is (subst (λ (b : Branch). 0 < bits b.left) same (live (n - 1) (omega arith))) a k)))
 
   pub apart_pop : Apart bs n → Apart written (n - 1)

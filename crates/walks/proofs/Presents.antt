@@ -4,7 +4,7 @@ use lib.Bits.{bit_and, and_comm}
 use Rattle.std.proofs.lemmas.Bool.{eqb-true, eq-eqb}
 use Rattle.atoms.specs.Atoms.{bits}
 use Rattle.atoms.specs.Sets.{hasb, has, Disjoint, Dropped, insert, Least, minus, remove, size, union}
-use Rattle.atoms.proofs.Members.{hasb-drop, hasb_or, hasb_pow, insert_cases, lacks, least_from_members, meet-from_sub, remove_is, size_below, size-insert, below-from_members, minus_sub, has-below}
+use Rattle.atoms.proofs.Members.{hasb-drop, hasb_or, hasb_pow, insert_cases, lacks, least_from_members, meet_from_sub, remove_is, size_below, size-insert, below_from_members, minus_sub, has-below}
 use Rattle.models.specs.Rows.{Row, Present}
 use Rattle.clauses.specs.Clauses.{language}
 use Rattle.walks.specs.Branches.{row_of}
@@ -16,7 +16,7 @@ use Rattle.walks.specs.declared.branches.Node.{Node}
 least_only : (s a : ℕ) → Least s a → minus s (remove s a) ≡ 2 ^ a
 least_only s a l =
     let r = remove s a in
-    let m : bit_and s r ≡ r = and_comm s r ∙ meet-from_sub r s (minus_sub s (2 ^ a)) in
+    let m : bit_and s r ≡ r = and_comm s r ∙ meet_from_sub r s (minus_sub s (2 ^ a)) in
     omega (arith, m, remove_is s a l.0)
 
 -- the node of a row that takes its least atom
@@ -61,7 +61,7 @@ pub room_for : (w t l : ℕ) → t < 2 ^ w → l < 2 ^ w → Disjoint t l → 0 
 room_for w t l p q d pos =
     let a = least_from_members l pos in
     let h = a.1.0 in
-    omega (arith, one_more t l a.0 d h, size_below w (insert t a.0) (below-from_members w (insert t a.0) (λ x k. inside x a.0 h (insert_cases t a.0 x k))))
+    omega (arith, one_more t l a.0 d h, size_below w (insert t a.0) (below_from_members w (insert t a.0) (λ x k. inside x a.0 h (insert_cases t a.0 x k))))
   where
     inside : (x a : ℕ) → has l a → has t x ⊎ (a ≡ x) → x < w
     inside x a h (inl k) = has-below w t x p k

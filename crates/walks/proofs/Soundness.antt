@@ -45,17 +45,17 @@ mem_map t [] m = elim m [ ]
 mem_map t (x ∷ ts) (Memᴰ.head e) = Memᴰ.head (ap bits e)
 mem_map t (x ∷ ts) (Memᴰ.tail m) = Memᴰ.tail (mem_map t ts m)
 
-from-map : (x : ℕ) (ts : List AtomSet) → Memᴰ x (map bits ts) → (t : AtomSet) × Memᴰ t ts × (x ≡ bits t)
-from-map x [] m = elim m [ ]
-from-map x (t ∷ ts) (Memᴰ.head e) = (t, Memᴰ.head refl, e)
-from-map x (t ∷ ts) (Memᴰ.tail m) = let k = from-map x ts m in (k.0, Memᴰ.tail k.1, k.2)
+from_map : (x : ℕ) (ts : List AtomSet) → Memᴰ x (map bits ts) → (t : AtomSet) × Memᴰ t ts × (x ≡ bits t)
+from_map x [] m = elim m [ ]
+from_map x (t ∷ ts) (Memᴰ.head e) = (t, Memᴰ.head refl, e)
+from_map x (t ∷ ts) (Memᴰ.tail m) = let k = from_map x ts m in (k.0, Memᴰ.tail k.1, k.2)
 
 holds_covered : (ts : List AtomSet) (s : AtomSet) → Holds ts s → Covered language (map bits ts) (bits s)
 holds_covered ts s h = (bits h.0, mem_map h.0 ts h.1, h.2)
 
 covered_holds : (ts : List AtomSet) (s : AtomSet) → Covered language (map bits ts) (bits s) → Holds ts s
 covered_holds ts s c =
-    let k = from-map c.0 ts c.1 in
+    let k = from_map c.0 ts c.1 in
     (k.0, k.1, subst (λ (x : ℕ). x ⊆ bits s) k.2 c.2)
 
 -- the node at which a walk stands

@@ -29,20 +29,20 @@ pairs_more f n k v g t l e d p =
     )
 
 -- a line whose pairs stand is the line of the bytes
-line-from : (f : ℕ → ℕ) (a n : ℕ) (t : List ℕ) → length t ≡ 2 * suc n
+line_from : (f : ℕ → ℕ) (a n : ℕ) (t : List ℕ) → length t ≡ 2 * suc n
     → ((j : ℕ) → j < suc n → (get_or t (2 * j) 0 ≡ f (a + j)) × (get_or t (2 * j + 1) 0 ≡ gap (suc n) j)) → t ≡ clause_line (map f (range_with_len a (suc n)))
-line-from f a n [] e p = absurd (omega arith)
-line-from f a n (x ∷ []) e p = absurd (omega arith)
-line-from f a zero (x ∷ y ∷ []) e p =
+line_from f a n [] e p = absurd (omega arith)
+line_from f a n (x ∷ []) e p = absurd (omega arith)
+line_from f a zero (x ∷ y ∷ []) e p =
     let q = p 0 (omega arith) in
     let z : a + 0 ≡ a = omega arith in
     ap (λ v. v ∷ y ∷ []) (q.0 ∙ ap f z) ∙ ap (λ v. f a ∷ v ∷ []) q.1
-line-from f a zero (x ∷ y ∷ w ∷ t) e p = absurd (omega arith)
-line-from f a (suc n) (x ∷ y ∷ t) e p =
+line_from f a zero (x ∷ y ∷ w ∷ t) e p = absurd (omega arith)
+line_from f a (suc n) (x ∷ y ∷ t) e p =
     let q = p 0 (omega arith) in
     let z : a + 0 ≡ a = omega arith in
     let g : gap (suc (suc n)) 0 ≡ 32 = grind (arith, nat_tests) in
-    let r = line-from f (a + 1) n t (omega arith) (λ j h.
+    let r = line_from f (a + 1) n t (omega arith) (λ j h.
     let u = p (suc j) (omega arith) in
     let i : 2 * suc j ≡ suc (suc (2 * j)) = omega arith in
     let k : 2 * suc j + 1 ≡ suc (suc (2 * j + 1)) = omega arith in
@@ -55,4 +55,4 @@ line-from f a (suc n) (x ∷ y ∷ t) e p =
 
 pub line_is : (f : ℕ → ℕ) (n : ℕ) (t : List ℕ) → 1 ≤ n → length t ≡ 2 * n → PairsAt f n t n → t ≡ clause_line (row_by f n)
 line_is f zero t h e p = absurd (omega arith)
-line_is f (suc n) t h e p = line-from f 0 n t e (λ j l. let z : j ≡ 0 + j = omega arith in ((p j l).0 ∙ ap f z, (p j l).1))
+line_is f (suc n) t h e p = line_from f 0 n t e (λ j l. let z : j ≡ 0 + j = omega arith in ((p j l).0 ∙ ap f z, (p j l).1))

@@ -3,7 +3,7 @@ use Rattle.std.proofs.Common.{◌≡◌, ℕ, ◌+◌, ◌*◌, ◌<◌, ◌≤�
 use Rattle.std.proofs.lemmas.Nat.{mul-le}
 use Rattle.std.proofs.lemmas.List.{append-nil, length-append}
 use Rattle.atoms.specs.declared.AtomSet.{AtomSet}
-use Rattle.formats.specs.Format.{line, most-names}
+use Rattle.formats.specs.Format.{line, most_names}
 use Rattle.lists.specs.Limit.{limit}
 use Rattle.writers.specs.Documents.Document.{report}
 use Rattle.writers.specs.Documents.{Document, TooLong, Unfit, last_line, lines_under, mark_of, text_of}
@@ -32,8 +32,8 @@ pub last_within : (b : Bool) (last : List ℕ) → last ≡ last_line b → leng
 last_within b last e = omega (arith, last_short b, ap length e)
 
 -- the lines of a shelf's sets are not too long for a number
-pub lines_short : (text : List ℕ) (n count : ℕ) → Heading text n → count ≤ limit → count * (2 * n) ≤ limit * (2 * most-names)
-lines_short text n count h l = mul-le count (2 * n) limit (2 * most-names) l (omega (arith, h.is_line.names_ok.few, h.count))
+pub lines_short : (text : List ℕ) (n count : ℕ) → Heading text n → count ≤ limit → count * (2 * n) ≤ limit * (2 * most_names)
+lines_short text n count h l = mul-le count (2 * n) limit (2 * most_names) l (omega (arith, h.is_line.names_ok.few, h.count))
 
 -- ---- the lines of a report
 

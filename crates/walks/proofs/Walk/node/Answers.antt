@@ -1,7 +1,7 @@
 use Rattle.std.proofs.Common.{◌≡◌, ◌-◌, ◌<◌, List, length, get_or, sym, ◌∙◌, subst, arith}
 use Rattle.std.proofs.lemmas.List.{get_or_read}
 use Rattle.atoms.specs.Atoms.{bits}
-use Rattle.atoms.proofs.Members.{disjoint_from-meet}
+use Rattle.atoms.proofs.Members.{disjoint_from_meet}
 use Rattle.walks.specs.Branches.{blank}
 use Rattle.walks.specs.Nodes.{Leads}
 use Rattle.walks.specs.Walks.{Here}
@@ -19,7 +19,7 @@ returns-else-self-eq0 c =
     let top : Branch = get_or w.branches (w.depth - 1) blank in
     let is : c.index-self-self.result ≡ top = get_or_read w.branches (w.depth - 1) c.index-self-self.result in' c.index-self-self.is blank in
     let leads : Leads top n = subst (λ (b : Branch). Leads b n) (sym c.index-self-self.is ∙ is) c.node.ensures in
-    let apart = disjoint_from-meet (bits top.taken) (bits top.left) (w.apart (w.depth - 1) (omega arith)) in
+    let apart = disjoint_from_meet (bits top.taken) (bits top.left) (w.apart (w.depth - 1) (omega arith)) in
     record {
       here = subst (λ (st : List Branch). Here st n) (sym (stack_top w.branches blank w.depth pos)) leads;
       sized = omega (arith, node-size top n leads (w.live (w.depth - 1) (omega arith)) apart, w.sized (w.depth - 1) (omega arith));

@@ -2,7 +2,7 @@ use Rattle.std.proofs.Common.{◌≡◌, ◌<◌, length, refl, ◌∙◌, arith
 use Rattle.std.proofs.lemmas.List.{length-set}
 use Rattle.atoms.specs.Atoms.{bits, width}
 use Rattle.atoms.specs.Sets.{Disjoint, meet, size}
-use Rattle.atoms.proofs.Members.{meet-from_disjoint}
+use Rattle.atoms.proofs.Members.{meet_from_disjoint}
 use Rattle.atoms.proofs.Values.{bits_below}
 use Rattle.walks.specs.Branches.{blank}
 use Rattle.walks.specs.declared.Walk.{Walk}
@@ -34,7 +34,7 @@ invariant_of-self c =
       live = each_push w.branches blank (λ k x. 0 < bits x.left) w.depth b in' w.live c.requires.live;
       sized = each_push w.branches blank (λ k x. size (bits x.taken) ≡ k) w.depth b in' w.sized c.requires.sized;
       apart = each_push w.branches blank (λ k x. meet (bits x.taken) (bits x.left) ≡ 0) w.depth b in' w.apart
-          (meet-from_disjoint (bits b.taken) (bits b.left) c.requires.apart);
+          (meet_from_disjoint (bits b.taken) (bits b.left) c.requires.apart);
     }
 
 pub returns : goal.returns

@@ -1,6 +1,6 @@
 use Rattle.std.proofs.Common.{◌+◌, ◌*◌, ◌≤◌, ◌++◌, length, refl, ap, arith}
 use Rattle.std.proofs.lemmas.Result.{err_from_is_err_and}
-use Rattle.formats.specs.Format.{most-names}
+use Rattle.formats.specs.Format.{most_names}
 use Rattle.lists.specs.Limit.{limit}
 use Rattle.writers.specs.Documents.Document.{report}
 use Rattle.writers.specs.Documents.{lines_under, mark_of}
@@ -20,7 +20,7 @@ returns-then-any_unnamed g c = (
 )
 
 module _ (g : _) (c : goal.After-len g) where
-  few : c.len.result * (2 * c.in_ok-n.n) ≤ limit * (2 * most-names)
+  few : c.len.result * (2 * c.in_ok-n.n) ≤ limit * (2 * most_names)
   few = lines_short c.args.names.now c.in_ok-n.n c.len.result c.in_ok-n.ensures (omega (arith, c.len.ensures.fits, c.len.ensures.limited))
 
 pub overflow_add-size : goal.overflow_add-size
