@@ -5,8 +5,8 @@
 set -eu
 cd "$(dirname "$0")/.."
 runs=${RUNS:-15}
-rt check shelf_bench >/dev/null
-program=target/bin/shelf_bench
+(cd crates/shelf_bench && rt run -- flat listed 1 0) >/dev/null
+program=crates/shelf_bench/out/shelf_bench
 
 # Runs the program with the arguments after the first, and lowers the variable that the first names to the nanoseconds it took.
 lower() {

@@ -1,6 +1,5 @@
 #!/usr/bin/env bash
-# What the programs do with arguments, and what they tell on the standard error of a text that is no sheet. The programs must be
-# built: `rt check explain check_sheet copy_sheet diagnose`.
+# What the programs do with arguments, and what they tell on the standard error of a text that is no sheet. It proves and builds them.
 set -u
 cd "$(dirname "$0")/.."
 failed=0
@@ -16,7 +15,8 @@ expect() {
 }
 
 for program in explain check_sheet copy_sheet diagnose; do
-    run=target/bin/$program
+    (cd "crates/$program" && rt run <stdin) >/dev/null 2>&1 || echo "$program: not built"
+    run=crates/$program/out/$program
     for word in --help -h; do
         text=$("$run" "$word" </dev/null)
         expect "$program $word ends well" "$?" 0
