@@ -1,11 +1,11 @@
-use Rattle.std.proofs.Common.{◌∙◌}
+use Rattle.std.proofs.Common.{◌∙◌, rules}
 use Rattle.cases.specs.Cases.{clauses_of}
 use Rattle.explaining.proofs.Requests.{of_source}
 use Rattle.explaining.proofs.listing.list_first.Goals as goal
 
 pub list_on-complete-requires : goal.list_on-complete-requires
 list_on-complete-requires g c =
-    (c.open-listing.ensures.sound (clauses_of g.S.Source.clauses c.open-listing.result), c.clear.ensures.empty)
+    (c.open-listing.ensures.sound (clauses_of g.S.Source.clauses c.open-listing.result), search rules)
 
 pub returns : goal.returns
 returns g c =
