@@ -5,7 +5,7 @@
 set -eu
 cd "$(dirname "$0")/.."
 runs=${RUNS:-15}
-(cd crates/shelf_bench && rt run -- flat listed 1 0) >/dev/null
+(cd crates/shelf_bench && rt run -- flat listed 1 0) >/dev/null 2>&1
 program=crates/shelf_bench/out/shelf_bench
 
 # Runs the program with the arguments after the first, and lowers the variable that the first names to the nanoseconds it took.
