@@ -35,30 +35,30 @@ pub struct Entry {
 
 impl Answer {
     // What an observation is answered.
-    pub(crate) fn to_observe(res: Result<(), ObserveRefusal>) -> Answer
-        ensures { result ≡ told_observe res }
+    pub(crate) fn to_observe(reply: Result<(), ObserveRefusal>) -> Answer
+        ensures { result ≡ told_observe reply }
     {
-        match res {
+        match reply {
             Ok(()) => Answer::Done,
             Err(refusal) => Answer::ObserveRefused(refusal),
         }
     }
 
     // What a withdrawal is answered.
-    pub(crate) fn to_withdraw(res: Result<(), WithdrawRefusal>) -> Answer
-        ensures { result ≡ told_withdraw res }
+    pub(crate) fn to_withdraw(reply: Result<(), WithdrawRefusal>) -> Answer
+        ensures { result ≡ told_withdraw reply }
     {
-        match res {
+        match reply {
             Ok(()) => Answer::Done,
             Err(refusal) => Answer::WithdrawRefused(refusal),
         }
     }
 
     // What a request is answered.
-    pub(crate) fn to_request(res: Result<Option<AtomSet>, RequestRefusal>) -> Answer
-        ensures { result ≡ told_request res }
+    pub(crate) fn to_request(reply: Result<Option<AtomSet>, RequestRefusal>) -> Answer
+        ensures { result ≡ told_request reply }
     {
-        match res {
+        match reply {
             Ok(found) => match found {
                 Some(set) => Answer::Explanation(set),
                 None => Answer::NoMore,

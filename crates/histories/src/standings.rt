@@ -3,7 +3,7 @@ ghost use Rattle.std.specs.Prelude.{◌≡◌, ℕ, List, ◌++◌};
 ghost use Rattle.clauses.specs.declared.clauses.Clause.{Clause};
 ghost use Rattle.layers.specs.Standing.{below, standing};
 ghost use Rattle.cases.specs.Cases.{resting};
-ghost use Rattle.histories.specs.Histories.{Complete, standing as standingIn, stood};
+ghost use Rattle.histories.specs.Histories.{Complete, standing as standing_in, stood};
 ghost use Rattle.histories.specs.Standings.{replied};
 ghost use Rattle.histories.specs.declared.calls.Entry.{Entry};
 
@@ -31,7 +31,7 @@ fn make_again<S>(case: &mut Case<S>, call: Call)
 pub fn case_after<S>(source: S, history: &[Entry]) -> Case<S>
     ensures standing { (cs : List Clause) (places : ℕ) (later : List Entry)
         → Complete cs places (history.now ++ later)
-        → standing (resting result) ≡ standingIn history.now }
+        → standing (resting result) ≡ standing_in history.now }
     ensures below { below (resting result) ≡ source }
 {
     let mut case = Case::new(source);

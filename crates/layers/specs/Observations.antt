@@ -6,12 +6,12 @@ use Rattle.clauses.specs.Clauses.{denial, fact}
 use Rattle.clauses.specs.Sources.{numbered}
 use Rattle.clauses.specs.declared.clauses.Clause.{Clause}
 use Rattle.clauses.specs.declared.origins.Origin.{Origin}
-use Rattle.clauses.specs.declared.origins.Kind.TheVariants.{Observation as byObservation}
+use Rattle.clauses.specs.declared.origins.Kind.TheVariants.{Observation as by_observation}
 use Rattle.layers.specs.declared.observations.Observation.{Observation}
 
 -- the origin of an observation before which i observations stand
 abbrev pub origin_at : ℕ → Origin
-origin_at i = record { kind = byObservation; number = i }
+origin_at i = record { kind = by_observation; number = i }
 
 -- the clause of an observation before which i observations stand: its atom is present, or absent
 abbrev pub clause_of : ℕ → Observation → Clause

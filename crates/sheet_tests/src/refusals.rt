@@ -1,11 +1,6 @@
 // Each refusal, and its place before the later ones.
+use crate::loading::load;
 use formats::SheetFault;
-use sheets::Sheet;
-
-fn load(text: &[u8]) -> Result<(), SheetFault> {
-    let mut sheet = Sheet::empty();
-    sheet.load(text)
-}
 
 #[test]
 fn a_names_line_that_is_not_as_described(rt: HostRuntime) {

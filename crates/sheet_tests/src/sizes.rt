@@ -1,13 +1,9 @@
 // Sizes: the longest names, the most names, and the longest text.
+use crate::loading::load;
 use formats::SheetFault;
 use sheets::Sheet;
 use std::alloc::{AllocError, Global};
 use std::test::Fail;
-
-fn load(text: &[u8]) -> Result<(), SheetFault> {
-    let mut sheet = Sheet::empty();
-    sheet.load(text)
-}
 
 // A names line of `count` names, each of two bytes.
 fn names(heap: Global, count: u8) -> Result<Vec<u8>, AllocError> {

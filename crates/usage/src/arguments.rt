@@ -22,34 +22,23 @@ impl Asked {
     }
 }
 
-// Is the program to run? It is with no argument; then a person at a terminal is told what it waits for. `--help` prints the
-// help text, and any other argument is refused.
-pub fn is_to_run(rt: &HostRuntime, help: &str) -> io::Result<bool> {
+// The status that a program ends with before it runs, or `None` where it is to run. It is with no argument; then a person at a
+// terminal is told what it waits for. `--help` prints the help text, and any other argument is refused.
+pub fn early_status(rt: &HostRuntime, help: &str) -> io::Result<Option<ExitCode>> {
     let Some(word) = env::args(rt)?.nth(1) else {
         if rt.stdin().is_terminal() {
             let _ = eprintln!(rt; "reading from the terminal: end with Ctrl-D, or see --help");
         }
-        return Ok(true);
+        return Ok(None);
     };
     match Asked::read(&word) {
         Asked::Help => {
             rt.print(help)?;
-            Ok(false)
+            Ok(Some(ExitCode::SUCCESS))
         }
         Asked::Unknown => {
             eprintln!(rt; "there is no argument {word}: see --help")?;
-            Err(io::Error::from(io::ErrorKind::InvalidInput))
+            Ok(Some(ExitCode::FAILURE))
         }
-    }
-}
-
-// The status that a program ends with before it runs, where its argument says so. `is_to_run` has told of a refused argument
-// already, so that nothing more is printed for it.
-pub fn early_status(rt: &HostRuntime, help: &str) -> io::Result<Option<ExitCode>> {
-    match is_to_run(rt, help) {
-        Ok(true) => Ok(None),
-        Ok(false) => Ok(Some(ExitCode::SUCCESS)),
-        Err(error) if error.kind() == io::ErrorKind::InvalidInput => Ok(Some(ExitCode::FAILURE)),
-        Err(error) => Err(error),
     }
 }

@@ -4,4 +4,4 @@ pub mod advice;
 pub mod arguments;
 
 pub use advice::{advise, fault_words};
-pub use arguments::{Asked, early_status, is_to_run};
+pub use arguments::{Asked, early_status};

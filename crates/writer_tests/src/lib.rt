@@ -1,5 +1,6 @@
 #![tactic(auto)]
 // Examples of written sheets and reports, of their refusals, and of the round trips.
+pub mod alone;
 #[cfg(test)]
 mod made;
 #[cfg(test)]

@@ -1,4 +1,5 @@
 // Written reports.
+use crate::alone::report_alone;
 use crate::made::names;
 use atoms::AtomSet;
 use shelves::{FlatShelf, Shelf};
@@ -17,6 +18,16 @@ fn complete_or_not(rt: HostRuntime) -> Result<(), Fail> {
     assert_eq!(rt; write_report(b"a b c\n", &shelf, false, &mut out), Ok(23));
     assert!(rt; out.as_slice() == b"a b c\n1 0 1\n0 0 0\nmore\nx".as_slice());
     Ok(())
+}
+
+#[test]
+fn one_set(rt: HostRuntime) {
+    let mut out = [b'x'; 13];
+    assert_eq!(rt;
+        report_alone(b"a b\n", AtomSet::from_word(0b10), &mut out),
+        Ok(12)
+    );
+    assert!(rt; out.as_slice() == b"a b\n0 1\nend\nx".as_slice());
 }
 
 #[test]

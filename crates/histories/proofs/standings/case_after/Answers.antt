@@ -2,7 +2,7 @@ use Rattle.std.proofs.Common.{ap, ◌∙◌}
 use Rattle.std.proofs.lemmas.List.{take_all}
 use Rattle.layers.specs.Standing.{standing}
 use Rattle.cases.specs.Cases.{resting}
-use Rattle.histories.specs.Histories.{standing as standingIn}
+use Rattle.histories.specs.Histories.{standing as standing_in}
 use Rattle.histories.proofs.Stood.{stands_on}
 use Rattle.histories.proofs.standings.case_after.Goals as goal
 
@@ -20,6 +20,6 @@ pub returns : goal.returns
 returns g c =
     let l = c.loop-made in
     record {
-      standing = λ cs places later law. l.invariant.0 cs places later law ∙ ap standingIn (take_all l.made-index c.args.history.now c.loop-made-test.false);
+      standing = λ cs places later law. l.invariant.0 cs places later law ∙ ap standing_in (take_all l.made-index c.args.history.now c.loop-made-test.false);
       below = l.invariant.1 ∙ c.new-case.ensures.below;
     }
