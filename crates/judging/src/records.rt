@@ -1,6 +1,7 @@
 // The record of a reason, and why reasons are refused.
 ghost use Rattle.std.specs.Prelude.{◌≡◌};
 ghost use Rattle.judging.specs.Refusals.{reasons_number};
+ghost use Rattle.judging.specs.declared.records.ReasonsRefusal.TheVariants.{TooFewRecords};
 
 use atoms::Atom;
 use clauses::Origin;
@@ -36,7 +37,9 @@ impl ReasonsRefusal {
 
 // A list of records that is full has too few of them.
 impl From<Full> for ReasonsRefusal {
+    ghost from_gives = { λ _ r. r ≡ TooFewRecords };
+
     fn from(_full: Full) -> ReasonsRefusal {
-        ReasonsRefusal::TooFewRecords
+        Self::TooFewRecords
     }
 }
