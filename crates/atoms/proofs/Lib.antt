@@ -2,3 +2,4 @@ pub mod Digits
 pub mod Members
 pub mod Words
 pub mod Values
+pub mod Rising

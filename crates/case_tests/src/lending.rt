@@ -1,8 +1,8 @@
 // Runs of calls on a case over a table, with a flat shelf, and what the lender of its memory then finds there.
-ghost use Rattle.std.specs.Prelude.{◌≡◌, ◌≤◌, List, [], map, min, length, take, drop};
+ghost use Rattle.std.specs.Prelude.{◌≡◌, List, [], map, min, length, take};
 ghost use Rattle.atoms.specs.Atoms.{bits};
 ghost use Rattle.clauses.specs.Sources.{placed};
-ghost use Rattle.histories.specs.Answers.{call_of, handed};
+ghost use Rattle.histories.specs.Answers.{Made, handed};
 ghost use Rattle.histories.specs.Histories.{Complete, Listed};
 ghost use Rattle.histories.specs.declared.calls.Entry.{Entry};
 ghost use Rattle.lists.specs.Limit.{limit};
@@ -16,9 +16,7 @@ use shelves::FlatShelf;
 // into the entries. Gives back how many calls it made. Where they leave a listing open, the memory begins with the sets that
 // the listing has handed out.
 pub fn replay_lent(clauses: &[Clause], memory: &mut [AtomSet], entries: &mut [Entry]) -> usize
-    ensures within { result ≤ length entries.new }
-    ensures calls { map call_of entries.new ≡ map call_of entries.old }
-    ensures rest { drop result entries.new ≡ drop result entries.old }
+    ensures made { Made entries.old entries.new result }
     ensures complete { Complete (placed clauses.now) (min (length memory.old) limit)
         (take result entries.new) }
     ensures memory { (before during : List Entry)

@@ -1,27 +1,10 @@
 // Examples over a table that asks for one of the atoms 0 and 1, and for one of 1 and 2.
+use crate::tables::one_of;
 use atoms::AtomSet;
 use cases::{Case, ObserveRefusal, RequestRefusal, WithdrawRefusal};
-use clauses::{Clause, Kind, Origin, Table};
+use clauses::Table;
 use histories::{Answer, Call, Entry, replay};
 use shelves::{FlatShelf, Shelf};
-
-fn one_of(word: u64) -> Clause {
-    Clause {
-        body: AtomSet::empty(),
-        head: AtomSet::from_word(word),
-        origin: Origin {
-            kind: Kind::Table,
-            number: 0,
-        },
-    }
-}
-
-fn ask(call: Call) -> Entry {
-    Entry {
-        call,
-        answer: Answer::Pending,
-    }
-}
 
 #[test]
 fn listing_hands_out_each_explanation_once(rt: HostRuntime) {
@@ -29,25 +12,26 @@ fn listing_hands_out_each_explanation_once(rt: HostRuntime) {
     let mut memory = [AtomSet::empty(); 2];
     let mut shelf = FlatShelf::new(&mut memory);
     let mut entries = [
-        ask(Call::Open),
-        ask(Call::Request),
-        ask(Call::Request),
-        ask(Call::Request),
-        ask(Call::Close),
-        ask(Call::Request),
-    ];
+        Call::Open,
+        Call::Request,
+        Call::Request,
+        Call::Request,
+        Call::Close,
+        Call::Request,
+    ]
+    .map(Entry::from);
     let (_, made) = replay(Table::new(&records), &mut shelf, &mut entries);
     assert_eq!(rt; made, 5);
     assert_eq!(rt;
         entries[1].answer,
-        Answer::Explanation(AtomSet::from_word(0b101))
+        Some(Answer::Explanation(AtomSet::from_word(0b101)))
     );
     assert_eq!(rt;
         entries[2].answer,
-        Answer::Explanation(AtomSet::from_word(0b010))
+        Some(Answer::Explanation(AtomSet::from_word(0b010)))
     );
-    assert_eq!(rt; entries[3].answer, Answer::NoMore);
-    assert_eq!(rt; entries[5].answer, Answer::Pending);
+    assert_eq!(rt; entries[3].answer, Some(Answer::NoMore));
+    assert_eq!(rt; entries[5].answer, None);
 }
 
 #[test]
@@ -56,41 +40,42 @@ fn observations_stand_until_they_are_withdrawn(rt: HostRuntime) {
     let mut memory = [AtomSet::empty(); 1];
     let mut shelf = FlatShelf::new(&mut memory);
     let mut entries = [
-        ask(Call::Observe(1, false)),
-        ask(Call::Observe(1, true)),
-        ask(Call::Observe(64, true)),
-        ask(Call::Open),
-        ask(Call::Request),
-        ask(Call::Request),
-        ask(Call::Close),
-        ask(Call::Withdraw),
-        ask(Call::Withdraw),
-        ask(Call::Open),
-        ask(Call::Request),
-        ask(Call::Request),
-    ];
+        Call::Observe(1, false),
+        Call::Observe(1, true),
+        Call::Observe(64, true),
+        Call::Open,
+        Call::Request,
+        Call::Request,
+        Call::Close,
+        Call::Withdraw,
+        Call::Withdraw,
+        Call::Open,
+        Call::Request,
+        Call::Request,
+    ]
+    .map(Entry::from);
     let (_, made) = replay(Table::new(&records), &mut shelf, &mut entries);
     assert_eq!(rt; made, 12);
     assert_eq!(rt;
         entries[1].answer,
-        Answer::ObserveRefused(ObserveRefusal::AlreadyObserved)
+        Some(Answer::ObserveRefused(ObserveRefusal::AlreadyObserved))
     );
     assert_eq!(rt;
         entries[2].answer,
-        Answer::ObserveRefused(ObserveRefusal::NoSuchAtom)
+        Some(Answer::ObserveRefused(ObserveRefusal::NoSuchAtom))
     );
     assert_eq!(rt;
         entries[4].answer,
-        Answer::Explanation(AtomSet::from_word(0b101))
+        Some(Answer::Explanation(AtomSet::from_word(0b101)))
     );
-    assert_eq!(rt; entries[5].answer, Answer::NoMore);
+    assert_eq!(rt; entries[5].answer, Some(Answer::NoMore));
     assert_eq!(rt;
         entries[8].answer,
-        Answer::WithdrawRefused(WithdrawRefusal::NothingObserved)
+        Some(Answer::WithdrawRefused(WithdrawRefusal::NothingObserved))
     );
     assert_eq!(rt;
         entries[11].answer,
-        Answer::RequestRefused(RequestRefusal::ShelfFull)
+        Some(Answer::RequestRefused(RequestRefusal::ShelfFull))
     );
 }
 

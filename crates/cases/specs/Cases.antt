@@ -1,8 +1,7 @@
 -- What a case and a listing hold.
 use Rattle.std.specs.Prelude.{◌≡◌, ℕ, List, length}
 use Rattle.clauses.specs.declared.clauses.Clause.{Clause}
-use Rattle.layers.specs.Standing.{observed_clauses}
-use Rattle.layers.specs.declared.observed.Observed.{Observed}
+use Rattle.layers.specs.Standing.{Observed, observed_clauses}
 use Rattle.walks.specs.Walks as walks
 use Rattle.cases.specs.declared.Case.{Case}
 use Rattle.cases.specs.declared.Listing.{Listing}
@@ -13,7 +12,7 @@ resting c = c.source
 
 -- the source of a listing with the observations that stand
 abbrev pub listed : {S : Type 0} → Listing S → Observed S
-listed l = l.source
+listed l = resting l.case
 
 -- the clauses of a listing: of the observations that stand, and then those of the source, which f gives
 abbrev pub clauses_of : {S : Type 0} → (S → List Clause) → Listing S → List Clause

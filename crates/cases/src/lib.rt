@@ -15,10 +15,11 @@ pub struct Case<S> {
     source: Observed<S>,
 }
 
-// A case whose explanations are being listed. It takes requests, and can be closed.
+// A case whose explanations are being listed, where the next is to be found, and how many are handed out. It takes requests, and
+// can be closed.
 #[derive(Drop)]
 pub struct Listing<S> {
-    source: Observed<S>,
+    case: Case<S>,
     walk: Walk,
     given: usize,
 }

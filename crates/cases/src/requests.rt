@@ -12,22 +12,14 @@ use crate::refusals::RequestRefusal;
 use crate::{Case, Listing};
 use atoms::AtomSet;
 use clauses::Source;
-use layers::Observation;
-use shelves::{Full, Shelf};
+use shelves::Shelf;
 
 impl<S> Listing<S> {
-    // The observations that stand, in the order in which they were made.
-    pub fn standing(&self) -> &[Observation]
-        ensures { result.now ≡ standing (listed self.now) }
+    // The case whose explanations are listed.
+    pub fn case(&self) -> &Case<S>
+        ensures { resting result.now ≡ listed self.now }
     {
-        self.source.standing()
-    }
-
-    // The source of the case.
-    pub fn source(&self) -> &S
-        ensures { result.now ≡ below (listed self.now) }
-    {
-        self.source.below()
+        &self.case
     }
 
     // How many sets it has handed out.
@@ -42,12 +34,7 @@ impl<S> Listing<S> {
         ensures standing { standing (resting result) ≡ standing (listed self) }
         ensures below { below (resting result) ≡ below (listed self) }
     {
-        let Listing {
-            source,
-            walk: _,
-            given: _,
-        } = self;
-        Case { source }
+        self.case
     }
 }
 
@@ -81,15 +68,11 @@ impl<S: Source> Listing<S> {
         if shelf.len() != self.given {
             return Err(RequestRefusal::WrongShelf);
         }
-        let Some(set) = self.walk.next(&self.source, shelf) else {
+        let Some(set) = self.walk.next(&self.case.source, shelf) else {
             return Ok(None);
         };
-        match shelf.keep(set) {
-            Ok(()) => {
-                self.given += 1;
-                Ok(Some(set))
-            }
-            Err(Full) => Err(RequestRefusal::ShelfFull),
-        }
+        shelf.keep(set)?;
+        self.given += 1;
+        Ok(Some(set))
     }
 }

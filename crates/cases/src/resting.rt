@@ -8,7 +8,7 @@ ghost use Rattle.cases.specs.Observing.{observation, observed_with, verdict, wit
 use crate::refusals::{ObserveRefusal, WithdrawRefusal};
 use crate::{Case, Listing};
 use atoms::Atom;
-use layers::{AlreadyObserved, Observation, Observed};
+use layers::{Observation, Observed};
 use walks::Walk;
 
 impl<S> Case<S> {
@@ -45,19 +45,16 @@ impl<S> Case<S> {
 
     // Takes one more observation: the atom is present, or absent. Refused where there is no atom of that number, and where
     // the atom is observed already; then nothing changes.
+    #[tactic(auto, using(atoms::proofs::Values::atom_is))]
     pub fn observe(&mut self, atom: u8, present: bool) -> Result<(), ObserveRefusal>
         ensures verdict { result ≡ verdict (standing (resting self.old)) atom }
         ensures standing { standing (resting self.new)
             ≡ observed_with (standing (resting self.old)) (observation atom present) result }
         ensures below { below (resting self.new) ≡ below (resting self.old) }
     {
-        let Some(atom) = Atom::new(atom) else {
-            return Err(ObserveRefusal::NoSuchAtom);
-        };
-        match self.source.observe(Observation { atom, present }) {
-            Ok(()) => Ok(()),
-            Err(AlreadyObserved) => Err(ObserveRefusal::AlreadyObserved),
-        }
+        let atom = Atom::new(atom).ok_or(ObserveRefusal::NoSuchAtom)?;
+        self.source.observe(Observation { atom, present })?;
+        Ok(())
     }
 
     // Takes the latest observation back. Refused where none stands.
@@ -66,10 +63,10 @@ impl<S> Case<S> {
         ensures standing { standing (resting self.new) ≡ withdrawn (standing (resting self.old)) }
         ensures below { below (resting self.new) ≡ below (resting self.old) }
     {
-        match self.source.withdraw() {
-            Some(_) => Ok(()),
-            None => Err(WithdrawRefusal::NothingObserved),
-        }
+        self.source
+            .withdraw()
+            .ok_or(WithdrawRefusal::NothingObserved)?;
+        Ok(())
     }
 
     // Begins to list the explanations of the observations that stand and the source. Nothing is handed out yet.
@@ -78,9 +75,8 @@ impl<S> Case<S> {
         ensures below { below (listed result) ≡ below (resting self) }
         ensures sound { (cs : List Clause) → Sound cs result [] }
     {
-        let Case { source } = self;
         Listing {
-            source,
+            case: self,
             walk: Walk::new(),
             given: 0,
         }
@@ -90,7 +86,6 @@ impl<S> Case<S> {
     pub fn into_source(self) -> S
         ensures { result ≡ below (resting self) }
     {
-        let Case { source } = self;
-        source.into_below()
+        self.source.into_below()
     }
 }

@@ -1,22 +1,28 @@
 #![tactic(auto)]
 // Reads a sheet from the standard input, and prints its clauses in words or why it is no sheet.
-use help::HELP;
+ghost use Rattle.wording.specs.Words.{Report};
+
+use std::alloc::{AllocError, Global};
 use std::io;
-use std::io::{Read, Write};
 use std::process::ExitCode;
-use usage::{advise, early_status};
+use usage::{Program, run};
 use wording::sheet_report;
 
 mod help;
 
-fn main(rt: HostRuntime) -> io::Result<ExitCode> {
-    if let Some(status) = early_status(&rt, HELP)? {
-        return Ok(status);
+// The program: it prints the outcome of reading a text, in words.
+struct CheckSheet;
+
+impl Program for CheckSheet {
+    ghost prints = { Report };
+
+    const HELP: &'static str = help::HELP;
+
+    fn answer(heap: Global, text: &[u8]) -> Result<Vec<u8>, AllocError> {
+        sheet_report(heap, text)
     }
-    let mut text = Vec::new(rt.alloc());
-    rt.stdin().read_to_end(&mut text)?;
-    let report = sheet_report(rt.alloc(), &text)?;
-    rt.stdout().write_all(&report)?;
-    advise(&rt, &text);
-    Ok(ExitCode::SUCCESS)
+}
+
+fn main(rt: HostRuntime) -> io::Result<ExitCode> {
+    run::<CheckSheet>(&rt)
 }

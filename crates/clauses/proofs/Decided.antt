@@ -1,5 +1,5 @@
 -- A program's answer to the question whether a set breaks a clause is the theory's test.
-use Rattle.std.proofs.Common.{◌≡◌, ℕ, Bool, Decides}
+use Rattle.std.proofs.Common.{◌≡◌, ℕ, Bool, Decides, sym}
 use Rattle.atoms.specs.Atoms.{bits}
 use Rattle.models.specs.Language.{Laws}
 use Rattle.models.specs.Models.{Breaks, breaks}
@@ -16,3 +16,6 @@ laws = numbers_laws (λ c. bits c.body) (λ c. bits c.head)
 pub decided : (r : Bool) (s : ℕ) (c : Clause) → Decides r (Breaks language s c) → breaks language s c ≡ r
 decided r s c d =
     same_test (breaks language s c) r (λ e. d.1 (breaks_true laws s c e)) (λ e. breaks_from laws s c (d.0 e))
+
+pub told : (r : Bool) (s : ℕ) (c : Clause) → Decides r (Breaks language s c) → r ≡ breaks language s c
+told r s c d = sym (decided r s c d)

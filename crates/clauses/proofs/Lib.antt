@@ -1,2 +1,2 @@
 pub mod Decided
-pub mod Firsts
+pub mod Places

@@ -26,18 +26,15 @@ impl Source for Table<'_> {
     ghost clauses = { table_clauses };
 
     fn first_broken(&self, set: AtomSet) -> Option<Clause> {
-        for (i, record) in self.records.iter().enumerate() {
-            if record.is_broken_by(set) {
-                return Some(Clause {
-                    body: record.body,
-                    head: record.head,
-                    origin: Origin {
-                        kind: Kind::Table,
-                        number: i as u64,
-                    },
-                });
-            }
-        }
-        None
+        let place = self
+            .records
+            .iter()
+            .position(|record| record.is_broken_by(set))?;
+        let record = self.records[place];
+        let origin = Origin {
+            kind: Kind::Table,
+            number: place as u64,
+        };
+        Some(Clause { origin, ..record })
     }
 }

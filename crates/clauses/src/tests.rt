@@ -6,6 +6,7 @@ use crate::tables::Table;
 use atoms::AtomSet;
 use std::test::Fail;
 
+// Written here too: what stands in a crate's tests serves no other crate.
 fn clause(body: u64, head: u64) -> Clause {
     Clause {
         body: AtomSet::from_word(body),

@@ -4,20 +4,16 @@ use atoms::AtomSet;
 use clauses::{Clause, Kind, Origin};
 use help::HELP;
 use round_trips::rewrite;
-use std::io;
-use std::io::{Read, Write};
+use std::alloc::{AllocError, Global};
+use std::io::{self, Read, Write};
 use std::process::ExitCode;
 use usage::{advise, early_status};
+use wording::refusal_words;
 
 mod help;
 
-fn main(rt: HostRuntime) -> io::Result<ExitCode> {
-    if let Some(status) = early_status(&rt, HELP)? {
-        return Ok(status);
-    }
-    let mut text = Vec::new(rt.alloc());
-    rt.stdin().read_to_end(&mut text)?;
-    // A clause takes two bytes at least.
+// The text again, where it is a sheet, and else the line of its refusal.
+fn copy(heap: Global, text: &[u8]) -> Result<Vec<u8>, AllocError> {
     let blank = Clause {
         body: AtomSet::empty(),
         head: AtomSet::empty(),
@@ -26,18 +22,27 @@ fn main(rt: HostRuntime) -> io::Result<ExitCode> {
             number: 0,
         },
     };
-    let mut clauses = vec![in rt.alloc(); blank; text.len() / 2]?;
-    let mut out = vec![in rt.alloc(); 0; text.len()]?;
-    match rewrite(&text, &mut clauses, &mut out) {
-        Ok(size) => rt.stdout().write_all(&out[..size])?,
-        Err(refusal) => {
-            advise(&rt, &text);
-            let number = refusal.number();
-            match refusal.line() {
-                Some(line) => println!(rt; "refused {number} line {line}")?,
-                None => println!(rt; "refused {number}")?,
-            }
+    // A clause takes two bytes at least.
+    let mut clauses = vec![in heap; blank; text.len() / 2]?;
+    let mut out = vec![in heap; 0; text.len()]?;
+    match rewrite(text, &mut clauses, &mut out) {
+        Ok(size) => {
+            out.truncate(size);
+            Ok(out)
         }
+        Err(refusal) => refusal_words(heap, u8::from(refusal), refusal.line()),
     }
+}
+
+// Apart from `usage::run`: here the advice on a text that is no sheet comes before what is printed, and there after it.
+fn main(rt: HostRuntime) -> io::Result<ExitCode> {
+    if let Some(status) = early_status(&rt, HELP)? {
+        return Ok(status);
+    }
+    let mut text = Vec::new(rt.alloc());
+    rt.stdin().read_to_end(&mut text)?;
+    let printed = copy(rt.alloc(), &text)?;
+    advise(&rt, &text);
+    rt.stdout().write_all(&printed)?;
     Ok(ExitCode::SUCCESS)
 }

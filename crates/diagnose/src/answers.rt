@@ -1,120 +1,67 @@
 // Answers in words.
 use crate::commands::Command;
 use crate::judgements::{write_judgement, write_reasons};
-use cases::{ObserveRefusal, RequestRefusal};
 use histories::{Answer, Entry, case_after};
-use sheets::Sheet;
-use std::alloc::{AllocError, Global};
-use wording::write_names;
+use judging::Judged;
+use std::alloc::AllocError;
+use std::fmt::Display;
+use wording::Page;
 
-// The answer of the call at a place.
-fn answer_at(entries: &[Entry], at: usize) -> Answer {
-    match entries.get(at) {
-        Some(entry) => entry.answer,
-        None => Answer::Pending,
-    }
+// Adds why a call is refused, after the number of the refusal.
+pub fn write_refusal<R: Display + Copy>(page: &mut Page<'_>, refusal: R) -> Result<(), AllocError>
+where
+    u8: From<R>,
+{
+    let number = u8::from(refusal);
+    write!(page, "refused {number}: {refusal}\n")
 }
 
-pub fn write_refusal(
-    heap: Global,
-    out: &mut Vec<u8>,
-    number: u8,
-    why: &str,
-) -> Result<(), AllocError> {
-    let line = format!(in heap; "refused {number}: {why}\n")?;
-    out.extend_from_slice(line.as_bytes())
-}
-
-fn write_observe_refusal(
-    heap: Global,
-    out: &mut Vec<u8>,
-    refusal: ObserveRefusal,
-) -> Result<(), AllocError> {
-    let why = match refusal {
-        ObserveRefusal::NoSuchAtom => "there is no such atom",
-        ObserveRefusal::AlreadyObserved => "it is observed already",
-    };
-    write_refusal(heap, out, refusal.number(), why)
-}
-
-fn write_request_refusal(
-    heap: Global,
-    out: &mut Vec<u8>,
-    refusal: RequestRefusal,
-) -> Result<(), AllocError> {
-    let why = match refusal {
-        RequestRefusal::WrongShelf => "the shelf has another number of sets",
-        RequestRefusal::ShelfFull => "the shelf is full, and an explanation is left",
-    };
-    write_refusal(heap, out, refusal.number(), why)
-}
-
-// Adds an answer, on a line of its own.
-fn write_answer(
-    heap: Global,
-    out: &mut Vec<u8>,
-    sheet: &Sheet<'_>,
-    answer: Answer,
-) -> Result<(), AllocError> {
+// Adds the answer of a call, on a line of its own.
+fn write_answer(page: &mut Page<'_>, answer: Option<Answer>) -> Result<(), AllocError> {
     match answer {
-        Answer::Pending => out.extend_from_slice(b"not asked\n"),
-        Answer::Done => out.extend_from_slice(b"taken\n"),
-        Answer::Explanation(set) => {
-            write_names(out, sheet, set, b"nothing", b" ")?;
-            out.extend_from_slice(b"\n")
+        None => page.add(b"not asked\n"),
+        Some(Answer::Done) => page.add(b"taken\n"),
+        Some(Answer::Explanation(set)) => {
+            page.add_names(set, b"nothing", b" ")?;
+            page.add(b"\n")
         }
-        Answer::NoMore => out.extend_from_slice(b"no more\n"),
-        Answer::ObserveRefused(refusal) => write_observe_refusal(heap, out, refusal),
-        Answer::WithdrawRefused(refusal) => {
-            write_refusal(heap, out, refusal.number(), "nothing is observed")
-        }
-        Answer::RequestRefused(refusal) => write_request_refusal(heap, out, refusal),
+        Some(Answer::NoMore) => page.add(b"no more\n"),
+        Some(Answer::ObserveRefused(refusal)) => write_refusal(page, refusal),
+        Some(Answer::WithdrawRefused(refusal)) => write_refusal(page, refusal),
+        Some(Answer::RequestRefused(refusal)) => write_refusal(page, refusal),
     }
 }
 
-// Adds the answers of requests, up to the first that hands out nothing.
-fn write_listing(
-    heap: Global,
-    out: &mut Vec<u8>,
-    sheet: &Sheet<'_>,
-    requests: &[Entry],
-) -> Result<(), AllocError> {
-    for request in requests {
-        write_answer(heap, out, sheet, request.answer)?;
-        if !matches!(request.answer, Answer::Explanation(_)) {
+// Adds the answers of the requests of a listing, up to the first that hands out nothing.
+fn write_listing(page: &mut Page<'_>, calls: &[Entry], count: usize) -> Result<(), AllocError> {
+    for request in calls.iter().skip(1).take(count) {
+        write_answer(page, request.answer)?;
+        if !matches!(request.answer, Some(Answer::Explanation(_))) {
             return Ok(());
         }
     }
     Ok(())
 }
 
-// Adds what a command is answered, where its calls begin at a place.
+// Adds what a command is answered, from the calls before its own and from its own, with which `calls` begins.
 pub fn write_command(
-    heap: Global,
-    out: &mut Vec<u8>,
-    sheet: &Sheet<'_>,
+    page: &mut Page<'_>,
     command: Command,
-    entries: &[Entry],
-    at: usize,
+    before: &[Entry],
+    calls: &[Entry],
 ) -> Result<(), AllocError> {
     match command {
         Command::Observe(_, _) | Command::Withdraw => {
-            write_answer(heap, out, sheet, answer_at(entries, at))
+            write_answer(page, calls.first().and_then(|made| made.answer))
         }
-        Command::List(count) => {
-            let from = at.saturating_add(1).min(entries.len());
-            let to = from.saturating_add(count).min(entries.len());
-            write_listing(heap, out, sheet, &entries[from..to])
-        }
+        Command::List(count) => write_listing(page, calls, count),
         Command::Judge(set) => {
-            let case = case_after(sheet, &entries[..at.min(entries.len())]);
-            write_judgement(heap, out, sheet, &case, set)
+            let case = case_after(page.sheet(), before);
+            write_judgement(page, &Judged { case: &case, set })
         }
         Command::Reasons(set) => {
-            let case = case_after(sheet, &entries[..at.min(entries.len())]);
-            write_reasons(heap, out, sheet, &case, set)
+            let case = case_after(page.sheet(), before);
+            write_reasons(page, &Judged { case: &case, set })
         }
-        Command::NoSuchName => out.extend_from_slice(b"no such name\n"),
-        Command::NoSuchCommand => out.extend_from_slice(b"no such command\n"),
     }
 }

@@ -1,10 +1,9 @@
 #![tactic(auto)]
 // Reads a sheet, an empty line and commands on a case over it from the standard input, and prints the answers in words.
-use help::HELP;
+use std::alloc::{AllocError, Global};
 use std::io;
-use std::io::{Read, Write};
 use std::process::ExitCode;
-use usage::{advise, early_status};
+use usage::{Program, run};
 
 mod answers;
 mod commands;
@@ -12,14 +11,24 @@ mod help;
 mod judgements;
 mod sessions;
 
-fn main(rt: HostRuntime) -> io::Result<ExitCode> {
-    if let Some(status) = early_status(&rt, HELP)? {
-        return Ok(status);
+// The program: it prints what the commands of a session are answered.
+struct Diagnose;
+
+impl Program for Diagnose {
+    // what is printed is only tested
+    ghost prints = { λ _ _. Unit };
+
+    const HELP: &'static str = help::HELP;
+
+    fn answer(heap: Global, text: &[u8]) -> Result<Vec<u8>, AllocError> {
+        sessions::diagnose(heap, text)
     }
-    let mut text = Vec::new(rt.alloc());
-    rt.stdin().read_to_end(&mut text)?;
-    let printed = sessions::diagnose(rt.alloc(), &text)?;
-    rt.stdout().write_all(&printed)?;
-    advise(&rt, sessions::sheet_part(&text));
-    Ok(ExitCode::SUCCESS)
+
+    fn sheet_part(text: &[u8]) -> &[u8] {
+        sessions::sheet_part(text)
+    }
+}
+
+fn main(rt: HostRuntime) -> io::Result<ExitCode> {
+    run::<Diagnose>(&rt)
 }

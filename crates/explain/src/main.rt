@@ -1,24 +1,30 @@
 #![tactic(auto)]
 // Reads a sheet from the standard input, and prints its explanations.
+ghost use Rattle.explaining.specs.Explained.{Explained};
+
 use explaining::explain;
-use help::HELP;
+use std::alloc::{AllocError, Global};
 use std::io;
-use std::io::{Read, Write};
 use std::process::ExitCode;
-use usage::{advise, early_status};
+use usage::{Program, run};
 
 mod help;
 #[cfg(test)]
 mod tests;
 
-fn main(rt: HostRuntime) -> io::Result<ExitCode> {
-    if let Some(status) = early_status(&rt, HELP)? {
-        return Ok(status);
+// The program: it prints the report of the first explanations, or the line of a refusal.
+struct Explain;
+
+impl Program for Explain {
+    ghost prints = { Explained };
+
+    const HELP: &'static str = help::HELP;
+
+    fn answer(heap: Global, text: &[u8]) -> Result<Vec<u8>, AllocError> {
+        explain(heap, text)
     }
-    let mut text = Vec::new(rt.alloc());
-    rt.stdin().read_to_end(&mut text)?;
-    let printed = explain(rt.alloc(), &text)?;
-    rt.stdout().write_all(&printed)?;
-    advise(&rt, &text);
-    Ok(ExitCode::SUCCESS)
+}
+
+fn main(rt: HostRuntime) -> io::Result<ExitCode> {
+    run::<Explain>(&rt)
 }

@@ -4,10 +4,15 @@ use std::alloc::{AllocError, Global};
 use std::process::Abort;
 use std::test::Fail;
 
-// Ends the last word of a line.
-fn end_line(text: &mut Vec<u8>) -> Result<(), AllocError> {
-    let _ = text.pop();
-    text.push(b'\n')?;
+// Adds a line of words that have one byte each.
+fn add_line(text: &mut Vec<u8>, words: &[u8]) -> Result<(), AllocError> {
+    for word in words {
+        text.push(*word)?;
+        text.push(b' ')?;
+    }
+    if let Some(end) = text.last_mut() {
+        *end = b'\n';
+    }
     Ok(())
 }
 
@@ -15,17 +20,12 @@ fn end_line(text: &mut Vec<u8>) -> Result<(), AllocError> {
 // number of explanations.
 fn pairs(heap: Global, names: &[u8]) -> Result<Vec<u8>, AllocError> {
     let mut text = Vec::new(heap);
-    for name in names {
-        text.push(*name)?;
-        text.push(b' ')?;
-    }
-    end_line(&mut text)?;
+    add_line(&mut text, names)?;
     for row in 0..names.len() / 2 {
-        for k in 0..names.len() {
-            text.push(if k / 2 == row { b'h' } else { b'.' })?;
-            text.push(b' ')?;
-        }
-        end_line(&mut text)?;
+        let values: Vec<u8> = (0..names.len())
+            .map(|k| if k / 2 == row { b'h' } else { b'.' })
+            .collect(heap)?;
+        add_line(&mut text, &values)?;
     }
     Ok(text)
 }

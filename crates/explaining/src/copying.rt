@@ -10,13 +10,5 @@ use std::alloc::{AllocError, Global};
 pub fn copy_clauses(heap: Global, sheet: &Sheet<'_>) -> Result<Vec<Clause>, AllocError>
     ensures { IfOk result (λ v. v.items ≡ clauses sheet.now) }
 {
-    let count = sheet.clause_count();
-    let mut records = Vec::with_capacity(heap, count)?;
-    for i in 0..count {
-        let Some(clause) = sheet.clause_at(i + 2) else {
-            unreachable()
-        };
-        records.push(clause)?;
-    }
-    Ok(records)
+    sheet.clauses().collect(heap)
 }

@@ -32,11 +32,10 @@ fn list_on<S: Source, H: Shelf>(listing: &mut Listing<S>, shelf: &mut H) -> bool
     ensures lender { H.Shelf.lender shelf.new ≡ H.Shelf.lender shelf.old }
 {
     'requests: loop {
-        let Ok(next) = listing.request(shelf) else {
-            return false;
-        };
-        if next.is_none() {
-            return true;
+        match listing.request(shelf) {
+            Ok(Some(_)) => {}
+            Ok(None) => return true,
+            Err(_) => return false,
         }
     }
 }

@@ -34,6 +34,7 @@ pub(crate) fn print_sheet(heap: Global, sheet: &Sheet<'_>) -> Result<Vec<u8>, Al
 }
 
 // The report of the sets on the shelf, which are the first explanations of the sheet.
+// `complete` is no part of the shelf: a full shelf may hold all.
 fn print_report<H: Shelf>(
     heap: Global,
     sheet: &Sheet<'_>,
@@ -43,13 +44,9 @@ fn print_report<H: Shelf>(
     requires { (Content (names sheet.now) (rows sheet.now)) × (Firsts (clauses sheet.now) most complete (map bits (H.Shelf.sets shelf.now))) }
     ensures { IfOk result (λ v. Listed (names sheet.now) (rows sheet.now) v.items) }
 {
-    let Some(names) = sheet.names_line() else {
-        unreachable()
-    };
+    let names = sheet.names_line().unwrap();
     let mut out = vec![in heap; 0; LONGEST_REPORT]?;
-    let Ok(size) = write_report(names, shelf, complete, &mut out) else {
-        unreachable()
-    };
+    let size = write_report(names, shelf, complete, &mut out).unwrap();
     out.truncate(size);
     Ok(out)
 }

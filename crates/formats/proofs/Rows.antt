@@ -28,9 +28,6 @@ row_rest a b t n r k h =
       ap (λ x. get_or (a ∷ b ∷ t) x 0) (sym f) ∙ (v.1 ∙ g),
     )
 
-gap-last : gap 1 0 ≡ 10
-gap-last = refl
-
 gap_more : (n : ℕ) → gap (suc (suc n)) 0 ≡ 32
 gap_more n = grind (arith, nat_tests)
 
@@ -101,9 +98,6 @@ begins_row t row rest n h b =
 
 pub no_row : (text : List ℕ) (n p : ℕ) → 1 ≤ n → (RowAt text n p → ⊥) → NoRow n (drop p text)
 no_row text n p h k row rest b = k (drop_row text n p (begins_row (drop p text) row rest n h b))
-
-pub place_more : (start n i : ℕ) → place start n (i + 1) ≡ place start n i + 2 * n
-place_more start n i = omega (arith, add-mul i 1 (2 * n))
 
 pub row_shift : (t : List ℕ) (n q p r : ℕ) → r ≡ q + p → RowAt t n r → RowAt (drop q t) n p
 row_shift t n q p r z h k l =

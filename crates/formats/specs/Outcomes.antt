@@ -1,8 +1,7 @@
 -- What reading a text as a sheet comes to: its names and clauses, or one of four refusals.
 use Rattle.std.specs.Prelude.{◌≡◌, ℕ, ◌+◌, ◌<◌, ◌≤◌, List, ◌++◌, length, Some, None, Option}
 use Rattle.formats.specs.Format.{longest, Apart, Content, IsSheet, Begins, BeginsRow, render}
-use Rattle.formats.specs.declared.faults.LineFault.{LineFault}
-use Rattle.formats.specs.declared.faults.LineFault.TheVariants.{Short, Value, Gap}
+use Rattle.formats.specs.Places.{Stops}
 use Rattle.formats.specs.declared.faults.SheetFault.{SheetFault}
 use Rattle.formats.specs.declared.faults.SheetFault.TheVariants.{Long, Names, Twice, Clause}
 
@@ -71,11 +70,9 @@ Says text (refused number named) = Refused text number named
 abbrev pub OneOutcome : Type 0
 OneOutcome = (text : List ℕ) (o o' : Outcome) → Says text o → Says text o' → o ≡ o'
 
--- the line that a fault of a clause line names, and what the fault is to the whole text
-abbrev pub fault_line : LineFault → ℕ
-fault_line (Short at) = at
-fault_line (Value at) = at
-fault_line (Gap at) = at
-
-abbrev pub fault_of : LineFault → SheetFault
-fault_of f = Clause (fault_line f)
+-- the fault is that of the first line that is no clause line for n names, where line 2 begins the text
+abbrev pub StopsWith : List ℕ → ℕ → SheetFault → Type 0
+StopsWith text n Long = ⊥
+StopsWith text n Names = ⊥
+StopsWith text n Twice = ⊥
+StopsWith text n (Clause at) = Stops text n 0 at

@@ -1,9 +1,11 @@
 -- The parts of a sheet's text by their places.
-use Rattle.std.specs.Prelude.{◌≡◌, ℕ, zero, suc, ◌+◌, ◌*◌, ◌<◌, ◌≤◌, cond, ◌⊎◌, List, [], ◌∷◌, ◌++◌, length, get_or, drop, ◌==◌, ◌≢◌, slice_index, slice_index_or}
-use Rattle.std.specs.List.{between}
+use Rattle.std.specs.Prelude.{◌≡◌, ℕ, zero, suc, ◌+◌, ◌*◌, ◌<◌, ◌≤◌, cond, ◌⊎◌, List, [], ◌∷◌, ◌++◌, length, get_or, drop, ◌==◌, ◌≢◌, slice_index, slice_index_or, Option}
+use Rattle.std.specs.Borrow.{Bor}
+use Rattle.std.specs.Option.{option_map_or}
 use Rattle.formats.specs.Format.{Value, Begins, line, render}
 use Rattle.formats.specs.declared.layouts.Layout.{Layout}
 use Rattle.formats.specs.declared.names.NamesLine.{NamesLine}
+use Rattle.formats.specs.declared.words.LineWords.{LineWords}
 
 -- line 1 is as described, and has so many names and bytes
 pub record FirstLine (text : List ℕ) (l : NamesLine) : Type 0 where
@@ -20,6 +22,12 @@ gap n k = cond (k + 1 == n) 10 32
 -- value k of n and what stands after it, in the line at place p
 abbrev pub ValueAt : List ℕ → ℕ → ℕ → ℕ → Type 0
 ValueAt text n p k = Value (slice_index text (p + 2 * k)) × (slice_index text (p + 2 * k + 1) ≡ gap n k)
+
+-- a value, and what stands after it
+pub record Cell (after : ℕ) (cell : List ℕ) : Type 0 where
+  pub size : length cell ≡ 2
+  pub value : Value (slice_index cell 0)
+  pub then : slice_index cell 1 ≡ after
 
 -- a clause line for n names stands at place p
 abbrev pub RowAt : List ℕ → ℕ → ℕ → Type 0
@@ -64,12 +72,23 @@ words t = words_from [] t
 abbrev pub Ends : ℕ → Type 0
 Ends b = (b ≡ 10) ⊎ (b ≡ 32)
 
--- the word that begins at place from goes to place to
-pub record WordTo (text : List ℕ) (from to : ℕ) : Type 0 where
-  pub after : from ≤ to
-  pub within : to ≤ length text
-  pub same : words (drop from text) ≡ words_from (between from to text) (drop to text)
-  pub ends : to < length text → Ends (slice_index text to)
+-- the byte at place e is the first that passes
+pub record FirstOf (Is : ℕ → Type 0) (text : List ℕ) (e : ℕ) : Type 0 where
+  pub within : e < length text
+  pub is : Is (slice_index text e)
+  pub before : (k : ℕ) → k < e → Is (slice_index text k) → ⊥
+
+-- no byte passes
+abbrev pub NoneOf : (ℕ → Type 0) → List ℕ → Type 0
+NoneOf Is text = (k : ℕ) → k < length text → Is (slice_index text k) → ⊥
+
+-- the words of what is left of a line, where it goes on
+abbrev pub words_of : Option (Bor (List ℕ)) → List (List ℕ)
+words_of rest = option_map_or (λ t. words t.now) rest []
+
+-- the words that are not handed out yet
+abbrev pub words_left : LineWords → List (List ℕ)
+words_left w = words_of w.rest
 
 -- no word is w
 abbrev pub Lacks : List (List ℕ) → List ℕ → Type 0

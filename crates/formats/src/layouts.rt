@@ -4,12 +4,13 @@ ghost use Rattle.formats.specs.Outcomes.Outcome.{accepted};
 ghost use Rattle.formats.specs.Outcomes.{Says, outcome_of};
 ghost use Rattle.formats.specs.Places.{Lies, names_in, rows_in};
 
-use crate::lines::clause_lines;
+use crate::lines::Columns;
 use crate::names::names_line;
 use crate::words::repeats;
 use crate::{LONGEST, SheetFault};
 
 // Where the parts of a sheet lie in its text: how many names line 1 holds, where the clause lines start, and how many there are.
+// Numbers and not slices, since the contract says where in the text the parts lie.
 #[derive(Clone, Copy)]
 pub struct Layout {
     pub names: usize,
@@ -30,10 +31,11 @@ impl Layout {
         let Some(first) = names_line(text) else {
             return Err(SheetFault::Names);
         };
+        let columns = Columns { names: first.count };
         if repeats(text) {
             return Err(SheetFault::Twice);
         }
-        let clauses = clause_lines(text, first.size, first.count)?;
+        let clauses = columns.clause_lines(&text[first.size..])?;
         Ok(Layout {
             names: first.count,
             start: first.size,

@@ -11,7 +11,7 @@ mod words;
 pub use faults::SheetFault;
 pub use layouts::Layout;
 pub use names::{NamesLine, names_line};
-pub use words::{find_word, repeats, word_at};
+pub use words::{LineWords, find_word, line_words, repeats, word_at};
 
 // The most bytes of a sheet, the most names, and the most bytes of a name.
 pub const LONGEST: usize = 65535;

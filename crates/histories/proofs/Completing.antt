@@ -1,7 +1,9 @@
 -- A history whose answers are right, call by call, keeps the law.
-use Rattle.std.proofs.Common.{◌≡◌, ℕ, ◌+◌, ◌<◌, ◌≤◌, Bool, List, [], ◌∷◌, ◌++◌, length, get_or, take, sym, refl, ap, ◌∙◌, subst, append_assoc, arith, length-append}
+use Rattle.std.specs.Prelude.{◌↔◌}
+use Rattle.std.proofs.Common.{◌≡◌, ℕ, ◌+◌, ◌<◌, ◌≤◌, Bool, List, [], ◌∷◌, ◌++◌, length, get_or, take, Some, None, Ok, Err, Option, sym, refl, ap, ◌∙◌, subst, append_assoc, arith, length-append}
 use Rattle.std.proofs.lemmas.List.{append-nil, take_all, take_more}
 use Rattle.atoms.specs.Atoms.{bits}
+use Rattle.atoms.specs.declared.AtomSet.{AtomSet}
 use Rattle.models.specs.Models.{Explanations}
 use Rattle.models.proofs.Lister.{empty_none, none_empty}
 use Rattle.clauses.specs.Clauses.{language}
@@ -10,82 +12,73 @@ use Rattle.clauses.proofs.Decided.{laws}
 use Rattle.layers.specs.Standing.{observed_over}
 use Rattle.layers.specs.declared.observations.Observation.{Observation}
 use Rattle.cases.specs.Observing.{verdict, withdrawal}
+use Rattle.cases.specs.Requests.{Answered, Reply}
 use Rattle.cases.specs.declared.refusals.RequestRefusal.TheVariants.{WrongShelf, ShelfFull}
-use Rattle.histories.specs.Answers.{handed, handed_by, told_observe, told_withdraw}
-use Rattle.histories.specs.Histories.{Complete, Due, Exactly, Listed, Requests, standing}
+use Rattle.histories.specs.Answers.{handed, handed_by, told_observe, told_request, told_withdraw}
+use Rattle.histories.specs.Histories.{Complete, Due, Listed, Requests, standing}
 use Rattle.histories.specs.Phases.{after, Lawful, LawfulFrom, Phase, phase_after, Right, Told}
 use Rattle.histories.specs.Phases.Phase.{resting, listing}
 use Rattle.histories.specs.declared.calls.Answer.{Answer}
-use Rattle.histories.specs.declared.calls.Answer.TheVariants.{Pending, Done, Explanation, NoMore, ObserveRefused, WithdrawRefused, RequestRefused}
+use Rattle.histories.specs.declared.calls.Answer.TheVariants.{Done, Explanation, NoMore, RequestRefused}
 use Rattle.histories.specs.declared.calls.Call.{Call}
 use Rattle.histories.specs.declared.calls.Call.TheVariants.{Observe, Withdraw, Open, Request, Close}
 use Rattle.histories.specs.declared.calls.Entry.{Entry}
 use Rattle.histories.proofs.Phased.{asked_lawful, lawful_back, lawful_front, rest_lawful, seen_by, standing_is, turn}
 
 -- two different answers
-abbrev Never : Type 0
+abbrev pub Never : Type 0
 Never = ◌≡◌ {A = ℕ} 0 1
 
-never : Never → ⊥
+pub never : Never → ⊥
 never z = omega arith
 
 module _ (ms out : List ℕ) (places : ℕ) where
   -- the sets handed out stay the first so many
-  step_front : (r : Answer) → Told ms out places r → out ≡ take (length out) ms → out ++ handed_by r ≡ take (length (out ++ handed_by r)) ms
-  step_front Pending t f = absurd t
-  step_front Done t f = absurd t
-  step_front (Explanation s) t f =
+  replied_front : (x : Reply) → Answered ms out places x → out ≡ take (length out) ms →
+      out ++ handed_by (Some (told_request x)) ≡ take (length (out ++ handed_by (Some (told_request x)))) ms
+  replied_front (Ok (Some s)) t f =
       let one : length (out ++ (bits s ∷ [])) ≡ length out + 1 = length-append out (bits s ∷ []) in
       sym (ap (λ (n : ℕ). take n ms) one ∙ take_more ms (length out) 0 t.0 ∙ ap (λ (xs : List ℕ). xs ++ (get_or ms (length out) 0 ∷ [])) (sym f)
       ∙ ap (λ (x : ℕ). out ++ (x ∷ [])) (sym t.2))
-  step_front NoMore t f = append-nil out ∙ f ∙ ap (λ (xs : List ℕ). take (length xs) ms) (sym (append-nil out))
-  step_front (ObserveRefused e) t f = absurd t
-  step_front (WithdrawRefused e) t f = absurd t
-  step_front (RequestRefused e) t f = append-nil out ∙ f ∙ ap (λ (xs : List ℕ). take (length xs) ms) (sym (append-nil out))
+  replied_front (Ok None) t f = append-nil out ∙ f ∙ ap (λ (xs : List ℕ). take (length xs) ms) (sym (append-nil out))
+  replied_front (Err e) t f = append-nil out ∙ f ∙ ap (λ (xs : List ℕ). take (length xs) ms) (sym (append-nil out))
+
+  step_front : (r : Option Answer) → Told ms out places r → out ≡ take (length out) ms → out ++ handed_by r ≡ take (length (out ++ handed_by r)) ms
+  step_front r t f =
+      subst (λ (x : Option Answer). out ++ handed_by x ≡ take (length (out ++ handed_by x)) ms) (sym t.1) (replied_front t.0 t.2 f)
 
   module _ (front : out ≡ take (length out) ms) where
-    whole : length out ≡ length ms → out ≡ ms
-    whole e = front ∙ ap (λ (n : ℕ). take n ms) e ∙ take_all (length ms) ms (omega arith)
+    pub whole : length ms ≤ length out → out ≡ ms
+    whole e = front ∙ take_all (length out) ms e
 
-    no_more : (r : Answer) → Told ms out places r → Exactly (r ≡ NoMore) (out ≡ ms)
-    no_more Pending t = absurd t
-    no_more Done t = absurd t
-    no_more (Explanation s) t = ((λ e. absurd (never (cc))), λ e. absurd (omega (arith, t.0, ap length e)))
-    no_more NoMore t = ((λ e. whole t), λ e. refl)
-    no_more (ObserveRefused e) t = absurd t
-    no_more (WithdrawRefused e) t = absurd t
-    no_more (RequestRefused WrongShelf) t = absurd t
-    no_more (RequestRefused ShelfFull) t = ((λ e. absurd (never (cc))), λ e. absurd (omega (arith, t.0, ap length e)))
+    no_more : (x : Reply) → Answered ms out places x → (Some (told_request x) ≡ Some NoMore) ↔ (out ≡ ms)
+    no_more (Ok (Some s)) t = ((λ e. absurd (never (cc))), λ e. absurd (omega (arith, t.0, ap length e)))
+    no_more (Ok None) t = ((λ e. whole (omega (arith, t))), λ e. refl)
+    no_more (Err WrongShelf) t = absurd t
+    no_more (Err ShelfFull) t = ((λ e. absurd (never (cc))), λ e. absurd (omega (arith, t.0, ap length e)))
 
-    full : (r : Answer) → Told ms out places r → Exactly (r ≡ RequestRefused ShelfFull) ((length out < length ms) × (places ≤ length out))
-    full Pending t = absurd t
-    full Done t = absurd t
-    full (Explanation s) t = ((λ e. absurd (never (cc))), λ k. absurd (omega (arith, t.1, k.1)))
-    full NoMore t = ((λ e. absurd (never (cc))), λ k. absurd (omega (arith, t, k.0)))
-    full (ObserveRefused e) t = absurd t
-    full (WithdrawRefused e) t = absurd t
-    full (RequestRefused WrongShelf) t = absurd t
-    full (RequestRefused ShelfFull) t = ((λ e. t), λ k. refl)
+    full : (x : Reply) → Answered ms out places x → (Some (told_request x) ≡ Some (RequestRefused ShelfFull)) ↔ ((length out < length ms) × (places ≤ length out))
+    full (Ok (Some s)) t = ((λ e. absurd (never (cc))), λ k. absurd (omega (arith, t.1, k.1)))
+    full (Ok None) t = ((λ e. absurd (never (cc))), λ k. absurd (omega (arith, t, k.0)))
+    full (Err WrongShelf) t = absurd t
+    full (Err ShelfFull) t = ((λ e. t), λ k. refl)
 
-    pub due : (cs : List Clause) → Explanations language cs ms → (r : Answer) → Told ms out places r → Due cs ms out places r
+    next : (x : Reply) → Answered ms out places x → (Some (told_request x) ≡ Some NoMore → ⊥) → (Some (told_request x) ≡ Some (RequestRefused ShelfFull) → ⊥) →
+        (s : AtomSet) × (Some (told_request x) ≡ Some (Explanation s)) × (length out < length ms) × (bits s ≡ get_or ms (length out) 0)
+    next (Ok (Some s)) k p q = (s, refl, k.0, k.2)
+    next (Ok None) k p q = absurd (p refl)
+    next (Err WrongShelf) k p q = absurd k
+    next (Err ShelfFull) k p q = absurd (q refl)
+
+    pub due : (cs : List Clause) → Explanations language cs ms → (r : Option Answer) → Told ms out places r → Due cs ms out places r
     due cs l r t =
-        let n = no_more r t in
-        record {
+        let n = no_more t.0 t.2 in
+        subst (λ (x : Option Answer). Due cs ms out places x) (sym t.1) (record {
           no_more = n;
           none_at_first = λ e. ((λ k. empty_none laws cs ms l (sym (n.0 k) ∙ e)), λ k. n.1 (e ∙ sym (none_empty laws cs ms l k)));
-          full = full r t;
-          next = next r t;
-        }
-      where
-        next : (x : Answer) → Told ms out places x → (x ≡ NoMore → ⊥) → (x ≡ RequestRefused ShelfFull → ⊥) → (s : _) × (x ≡ Explanation s) × (length out < length ms) × (bits s ≡ get_or ms (length out) 0)
-        next Pending k p q = absurd k
-        next Done k p q = absurd k
-        next (Explanation s) k p q = (s, refl, k.0, k.2)
-        next NoMore k p q = absurd (p refl)
-        next (ObserveRefused e) k p q = absurd k
-        next (WithdrawRefused e) k p q = absurd k
-        next (RequestRefused WrongShelf) k p q = absurd k
-        next (RequestRefused ShelfFull) k p q = absurd (q refl)
+          full = full t.0 t.2;
+          next = next t.0 t.2;
+        })
 
 module _ (cs : List Clause) (places : ℕ) where
   pub fronted : (os : List Observation) (out : List ℕ) (d : List Entry) → Requests d → LawfulFrom cs places (listing os out) d →
@@ -117,19 +110,19 @@ module _ (cs : List Clause) (places : ℕ) where
       right_at : (k : Call) → e.call ≡ k → Right cs places (phase_after before) k e.answer
       right_at k is = subst (λ (c : Call). Right cs places (phase_after before) c e.answer) is right
 
-    observe_at : (p : Phase) (a : ℕ) (q : Bool) (r : Answer) → Right cs places p (Observe a q) r → r ≡ told_observe (verdict (seen_by p) a)
+    observe_at : (p : Phase) (a : ℕ) (q : Bool) (r : Option Answer) → Right cs places p (Observe a q) r → r ≡ Some (told_observe (verdict (seen_by p) a))
     observe_at (resting os) a q r w = w
     observe_at (listing os out) a q r w = absurd w
 
-    withdraw_at : (p : Phase) (r : Answer) → Right cs places p Withdraw r → r ≡ told_withdraw (withdrawal (seen_by p))
+    withdraw_at : (p : Phase) (r : Option Answer) → Right cs places p Withdraw r → r ≡ Some (told_withdraw (withdrawal (seen_by p)))
     withdraw_at (resting os) r w = w
     withdraw_at (listing os out) r w = absurd w
 
-    open_at : (p : Phase) (r : Answer) → Right cs places p Open r → r ≡ Done
+    open_at : (p : Phase) (r : Option Answer) → Right cs places p Open r → r ≡ Some Done
     open_at (resting os) r w = w
     open_at (listing os out) r w = absurd w
 
-    close_at : (p : Phase) (r : Answer) → Right cs places p Close r → r ≡ Done
+    close_at : (p : Phase) (r : Option Answer) → Right cs places p Close r → r ≡ Some Done
     close_at (resting os) r w = absurd w
     close_at (listing os out) r w = w
 
@@ -144,11 +137,11 @@ module _ (cs : List Clause) (places : ℕ) where
           observing =
               λ before rest e a q place is.
               observe_at (phase_after before) a q e.answer (right_at before rest e place (Observe a q) is)
-              ∙ ap (λ (os : List Observation). told_observe (verdict os a)) (standing_is cs places before (earlier before rest e place));
+              ∙ ap (λ (os : List Observation). Some (told_observe (verdict os a))) (standing_is cs places before (earlier before rest e place));
           withdrawing =
               λ before rest e place is.
               withdraw_at (phase_after before) e.answer (right_at before rest e place Withdraw is)
-              ∙ ap (λ (os : List Observation). told_withdraw (withdrawal os)) (standing_is cs places before (earlier before rest e place));
+              ∙ ap (λ (os : List Observation). Some (told_withdraw (withdrawal os))) (standing_is cs places before (earlier before rest e place));
           opening = λ before rest e place is. open_at (phase_after before) e.answer (right_at before rest e place Open is);
           closing = λ before rest e place is. close_at (phase_after before) e.answer (right_at before rest e place Close is);
           in_turn = λ before rest e place. turn cs places before (earlier before rest e place) e.call e.answer (right before rest e place);

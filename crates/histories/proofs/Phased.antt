@@ -1,11 +1,11 @@
 -- The phases of a history that is lawful, by its listings.
-use Rattle.std.proofs.Common.{◌≡◌, ℕ, ◌⊎◌, List, [], ◌∷◌, ◌++◌, sym, refl, ap, ◌∙◌, subst, ap₂, inl, inr, append_assoc}
+use Rattle.std.proofs.Common.{◌≡◌, ℕ, ◌⊎◌, List, [], ◌∷◌, ◌++◌, Option, sym, refl, ap, ◌∙◌, subst, ap₂, inl, inr, append_assoc}
 use Rattle.std.proofs.lemmas.List.{append-nil}
 use Rattle.clauses.specs.declared.clauses.Clause.{Clause}
 use Rattle.layers.specs.declared.observations.Observation.{Observation}
 use Rattle.histories.specs.Answers.{handed, handed_by}
 use Rattle.histories.specs.Histories.{InTurn, Listed, Opened, Requests, standing, standing_from, stood, Turn}
-use Rattle.histories.specs.Phases.{after, Barred, Lawful, LawfulFrom, Phase, phase_after, phase_from, Right}
+use Rattle.histories.specs.Phases.{after, Barred, Going, Lawful, LawfulFrom, Phase, phase_after, phase_from, Right}
 use Rattle.histories.specs.Phases.Phase.{resting, listing}
 use Rattle.histories.specs.declared.calls.Answer.{Answer}
 use Rattle.histories.specs.declared.calls.Call.{Call}
@@ -16,11 +16,6 @@ use Rattle.histories.specs.declared.calls.Entry.{Entry}
 abbrev pub seen_by : Phase → List Observation
 seen_by (resting os) = os
 seen_by (listing os out) = os
-
--- a listing is open in the phase
-abbrev pub Going : Phase → Type 0
-Going (resting os) = ⊥
-Going (listing os out) = Unit {0}
 
 pub phase_join : (p : Phase) (xs ys : List Entry) → phase_from p (xs ++ ys) ≡ phase_from (phase_from p xs) ys
 phase_join p [] ys = refl
@@ -34,9 +29,17 @@ phase_requests os out (e ∷ d) q =
     ∙ phase_requests os (out ++ handed_by e.answer) d q.1
     ∙ ap (listing os) (append_assoc out (handed_by e.answer) (handed d))
 
--- a place in a history, with what comes before it taken together
-pub regroup : (before : List Entry) (o : Entry) (d rest : List Entry) → before ++ (o ∷ (d ++ rest)) ≡ (before ++ (o ∷ d)) ++ rest
-regroup before o d rest = sym (append_assoc before (o ∷ d) rest)
+-- whether a listing is open decides whose turn it is
+same_turn : (P Q : Type 0) → (P → Q) → (Q → P) → (k : Call) → Turn P k → Turn Q k
+same_turn P Q to from (Observe a p) t = λ q. t (from q)
+same_turn P Q to from Withdraw t = λ q. t (from q)
+same_turn P Q to from Open t = λ q. t (from q)
+same_turn P Q to from Request t = to t
+same_turn P Q to from Close t = to t
+
+-- a history that ends in an open listing
+pub open_place : (h before d : List Entry) (x : Listed h before d []) → h ≡ before ++ (x.opening ∷ d)
+open_place h before d x = x.place ∙ ap (λ (es : List Entry). before ++ (x.opening ∷ es)) (append-nil d)
 
 module _ (cs : List Clause) (places : ℕ) where
   pub lawful_front : (p : Phase) (xs ys : List Entry) → LawfulFrom cs places p (xs ++ ys) → LawfulFrom cs places p xs
@@ -51,7 +54,7 @@ module _ (cs : List Clause) (places : ℕ) where
   lawful_join p [] ys l m = m
   lawful_join p (x ∷ xs) ys l m = (l.0, lawful_join (after p x.call x.answer) xs ys l.1 m)
 
-  step_standing : (p : Phase) (k : Call) (r : Answer) → Right cs places p k r → seen_by (after p k r) ≡ stood (seen_by p) k r
+  step_standing : (p : Phase) (k : Call) (r : Option Answer) → Right cs places p k r → seen_by (after p k r) ≡ stood (seen_by p) k r
   step_standing (resting os) (Observe a q) r w = refl
   step_standing (resting os) Withdraw r w = refl
   step_standing (resting os) Open r w = refl
@@ -73,7 +76,7 @@ module _ (cs : List Clause) (places : ℕ) where
   pub standing_is : (h : List Entry) → Lawful cs places h → seen_by (phase_after h) ≡ standing h
   standing_is h l = standing_from_lem (resting []) h l
 
-  open_rests : (q : Phase) (k : Call) (r : Answer) → k ≡ Open → Right cs places q k r → q ≡ resting (seen_by q)
+  open_rests : (q : Phase) (k : Call) (r : Option Answer) → k ≡ Open → Right cs places q k r → q ≡ resting (seen_by q)
   open_rests (resting os) k r e w = refl
   open_rests (listing os out) k r e w = absurd (subst (λ (x : Call). Right cs places (listing os out) x r) e w)
 
@@ -111,14 +114,13 @@ module _ (cs : List Clause) (places : ℕ) where
         subst (λ (p : Phase). LawfulFrom cs places p rest) (phase_requests (standing before) [] d x.asked)
         (lawful_back (listing (standing before) []) d rest asked_lawful)
 
+  -- the phase in which a listing is open
+  pub phase_open : (h before d : List Entry) → Lawful cs places h → Listed h before d [] → phase_after h ≡ listing (standing before) (handed d)
+  phase_open h before d l x = ap phase_after (open_place h before d x) ∙ phase_listed h before d [] l x
+
   -- a listing is open exactly where the phase says so
   pub opened_going : (h : List Entry) → Lawful cs places h → Opened h → Going (phase_after h)
-  opened_going h l x =
-      let before = x.0 in
-      let d = x.1 in
-      let m = x.2 in
-      let is : h ≡ before ++ (m.opening ∷ d) = m.place ∙ ap (λ (es : List Entry). before ++ (m.opening ∷ es)) (append-nil d) in
-      subst Going (sym (ap phase_after is ∙ phase_listed h before d [] l m)) tt
+  opened_going h l x = subst Going (sym (phase_open h x.0 x.1 l x.2)) tt
 
   opened_cons : (e : Entry) (h : List Entry) → Opened h → Opened (e ∷ h)
   opened_cons e h x =
@@ -128,7 +130,7 @@ module _ (cs : List Clause) (places : ℕ) where
   Gate (resting os) h = Opened h
   Gate (listing os out) h = Requests h ⊎ Opened h
 
-  gate_step : (p : Phase) (e : Entry) (es : List Entry) (k : Call) (r : Answer) → e.call ≡ k → Right cs places p k r → Gate (after p k r) es → Gate p (e ∷ es)
+  gate_step : (p : Phase) (e : Entry) (es : List Entry) (k : Call) (r : Option Answer) → e.call ≡ k → Right cs places p k r → Gate (after p k r) es → Gate p (e ∷ es)
   gate_step (resting os) e es (Observe a q) r is w g = opened_cons e es g
   gate_step (resting os) e es Withdraw r is w g = opened_cons e es g
   gate_step (resting os) e es Open r is w (inl all) =
@@ -152,35 +154,24 @@ module _ (cs : List Clause) (places : ℕ) where
   pub going_opened : (h : List Entry) → Lawful cs places h → Going (phase_after h) → Opened h
   going_opened h l g = gate_from (resting []) h l g
 
-  turn_from : (P : Type 0) (p : Phase) (k : Call) (r : Answer) → (P → Going p) → (Going p → P) → Right cs places p k r → Turn P k
-  turn_from P (resting os) (Observe a q) r to from w = to
-  turn_from P (resting os) Withdraw r to from w = to
-  turn_from P (resting os) Open r to from w = to
-  turn_from P (resting os) Request r to from w = absurd w
-  turn_from P (resting os) Close r to from w = absurd w
-  turn_from P (listing os out) (Observe a q) r to from w = absurd w
-  turn_from P (listing os out) Withdraw r to from w = absurd w
-  turn_from P (listing os out) Open r to from w = absurd w
-  turn_from P (listing os out) Request r to from w = from tt
-  turn_from P (listing os out) Close r to from w = from tt
+  -- a call that is answered rightly is in turn
+  turn_in : (p : Phase) (k : Call) (r : Option Answer) → Right cs places p k r → Turn (Going p) k
+  turn_in (resting os) (Observe a q) r w = λ going. going
+  turn_in (resting os) Withdraw r w = λ going. going
+  turn_in (resting os) Open r w = λ going. going
+  turn_in (resting os) Request r w = absurd w
+  turn_in (resting os) Close r w = absurd w
+  turn_in (listing os out) (Observe a q) r w = absurd w
+  turn_in (listing os out) Withdraw r w = absurd w
+  turn_in (listing os out) Open r w = absurd w
+  turn_in (listing os out) Request r w = tt
+  turn_in (listing os out) Close r w = tt
 
-  pub turn : (h : List Entry) → Lawful cs places h → (k : Call) (r : Answer) → Right cs places (phase_after h) k r → InTurn h k
-  turn h l k r w = turn_from (Opened h) (phase_after h) k r (opened_going h l) (going_opened h l) w
-
-  barred_from : (P : Type 0) (p : Phase) (k : Call) → (P → Going p) → (Going p → P) → Barred p k → Turn P k → ⊥
-  barred_from P (resting os) (Observe a q) to from b t = b
-  barred_from P (resting os) Withdraw to from b t = b
-  barred_from P (resting os) Open to from b t = b
-  barred_from P (resting os) Request to from b t = to t
-  barred_from P (resting os) Close to from b t = to t
-  barred_from P (listing os out) (Observe a q) to from b t = t (from tt)
-  barred_from P (listing os out) Withdraw to from b t = t (from tt)
-  barred_from P (listing os out) Open to from b t = t (from tt)
-  barred_from P (listing os out) Request to from b t = b
-  barred_from P (listing os out) Close to from b t = b
+  pub turn : (h : List Entry) → Lawful cs places h → (k : Call) (r : Option Answer) → Right cs places (phase_after h) k r → InTurn h k
+  turn h l k r w = same_turn (Going (phase_after h)) (Opened h) (going_opened h l) (opened_going h l) k (turn_in (phase_after h) k r w)
 
   pub barred : (h : List Entry) → Lawful cs places h → (k : Call) → Barred (phase_after h) k → InTurn h k → ⊥
-  barred h l k b t = barred_from (Opened h) (phase_after h) k (opened_going h l) (going_opened h l) b t
+  barred h l k b t = b (same_turn (Opened h) (Going (phase_after h)) (opened_going h l) (going_opened h l) k t)
 
   -- where no listing is open, the phase is at rest
   pub resting_is : (h : List Entry) → Lawful cs places h → ¬ Opened h → phase_after h ≡ resting (standing h)

@@ -1,24 +1,17 @@
 -- One more entry of a history, and what is on the shelf at its end.
-use Rattle.std.proofs.Common.{◌≡◌, ℕ, zero, suc, ◌+◌, ◌<◌, List, [], ◌∷◌, ◌++◌, map, length, get_or, take, set, sym, refl, ap, ◌∙◌, subst, arith}
-use Rattle.std.proofs.lemmas.List.{append-nil, take_more_set}
+use Rattle.std.proofs.Common.{◌≡◌, ℕ, ◌+◌, ◌<◌, List, [], ◌∷◌, map, length, take, drop, set, sym, refl, ap, ◌∙◌, subst, arith}
+use Rattle.std.proofs.lemmas.List.{drop-drop, drop-set-lt, take_more_set}
 use Rattle.atoms.specs.Atoms.{bits}
 use Rattle.atoms.specs.declared.AtomSet.{AtomSet}
 use Rattle.clauses.specs.declared.clauses.Clause.{Clause}
-use Rattle.histories.specs.Answers.{call_of}
 use Rattle.histories.specs.Histories.{OnShelf}
 use Rattle.histories.specs.Phases.{after, Lawful, Phase, phase_after, Right}
 use Rattle.histories.specs.Phases.Phase.{resting, listing}
 use Rattle.histories.specs.States.{Agrees}
-use Rattle.histories.specs.declared.calls.Call.{Call}
 use Rattle.histories.specs.declared.calls.Entry.{Entry}
 use Rattle.histories.specs.declared.states.State.{State}
 use Rattle.histories.specs.declared.states.State.TheVariants.{AtRest, Listed}
-use Rattle.histories.proofs.Phased.{lawful_join, phase_join, phase_listed}
-
-pub calls_set : (es : List Entry) (i : ℕ) (e d : Entry) → i < length es → e.call ≡ (get_or es i d).call → map call_of (set es i e) ≡ map call_of es
-calls_set [] i e d h k = elim h [ ]
-calls_set (x ∷ es) zero e d h k = ap (λ (c : Call). c ∷ map call_of es) k
-calls_set (x ∷ es) (suc i) e d h k = ap (λ (cs : List Call). call_of x ∷ cs) (calls_set es i e d (omega arith) k)
+use Rattle.histories.proofs.Phased.{lawful_join, phase_join, phase_open}
 
 module _ (es : List Entry) (i : ℕ) (e : Entry) (h : i < length es) where
   pub phase_set : phase_after (take (i + 1) (set es i e)) ≡ after (phase_after (take i es)) e.call e.answer
@@ -29,6 +22,11 @@ module _ (es : List Entry) (i : ℕ) (e : Entry) (h : i < length es) where
       Lawful cs places (take (i + 1) (set es i e))
   lawful_set cs places l r =
       subst (λ (xs : List Entry). Lawful cs places xs) (sym (take_more_set es i e h)) (lawful_join cs places (resting []) (take i es) (e ∷ []) l (r, tt))
+
+-- the entries that are still to come
+pub rest_set : (es es' : List Entry) (i : ℕ) (e : Entry) → drop i es ≡ drop i es' → drop (i + 1) (set es i e) ≡ drop (i + 1) es'
+rest_set es es' i e same =
+    drop-set-lt (i + 1) es i e (omega arith) ∙ (sym (drop-drop 1 i es) ∙ ap (drop 1) same ∙ drop-drop 1 i es')
 
 -- the sets of a phase are on the shelf
 abbrev Shelved : Phase → List ℕ → Type 0
@@ -43,5 +41,4 @@ pub on_shelf :
     {S : Type 0} (f : S → List Clause) (cs : List Clause) (places : ℕ) (h : List Entry) → Lawful cs places h →
     (st : State S) (ts : List AtomSet) → Agrees f st ts (phase_after h) → OnShelf h (map bits ts)
 on_shelf f cs places h l st ts ag before d x =
-    let is : h ≡ before ++ (x.opening ∷ d) = x.place ∙ ap (λ (es : List Entry). before ++ (x.opening ∷ es)) (append-nil d) in
-    subst (λ (p : Phase). Shelved p (map bits ts)) (ap phase_after is ∙ phase_listed cs places h before d [] l x) (shelved f st ts (phase_after h) ag)
+    subst (λ (p : Phase). Shelved p (map bits ts)) (phase_open cs places h before d l x) (shelved f st ts (phase_after h) ag)

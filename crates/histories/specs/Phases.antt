@@ -1,16 +1,16 @@
 -- The law call by call: the phase in which a history leaves a case, and which answers are right there.
-use Rattle.std.specs.Prelude.{◌≡◌, ℕ, List, [], ◌∷◌, ◌++◌, Some, None, Ok, Err, Option}
+use Rattle.std.specs.Prelude.{◌≡◌, ℕ, List, [], ◌∷◌, ◌++◌, Some, None, Option}
 use Rattle.models.specs.Models.{Explanations}
 use Rattle.clauses.specs.Clauses.{language}
 use Rattle.clauses.specs.declared.clauses.Clause.{Clause}
 use Rattle.layers.specs.Standing.{observed_over}
 use Rattle.layers.specs.declared.observations.Observation.{Observation}
 use Rattle.cases.specs.Observing.{verdict, withdrawal}
-use Rattle.cases.specs.Requests.{Answered}
-use Rattle.histories.specs.Answers.{handed_by, told_observe, told_withdraw}
-use Rattle.histories.specs.Histories.{stood}
+use Rattle.cases.specs.Requests.{Answered, Reply}
+use Rattle.histories.specs.Answers.{handed_by, told_observe, told_request, told_withdraw}
+use Rattle.histories.specs.Histories.{stood, Turn}
 use Rattle.histories.specs.declared.calls.Answer.{Answer}
-use Rattle.histories.specs.declared.calls.Answer.TheVariants.{Pending, Done, Explanation, NoMore, ObserveRefused, WithdrawRefused, RequestRefused}
+use Rattle.histories.specs.declared.calls.Answer.TheVariants.{Done}
 use Rattle.histories.specs.declared.calls.Call.{Call}
 use Rattle.histories.specs.declared.calls.Call.TheVariants.{Observe, Withdraw, Open, Request, Close}
 use Rattle.histories.specs.declared.calls.Entry.{Entry}
@@ -21,7 +21,7 @@ pub data Phase : Type 0 where
   listing : List Observation → List ℕ → Phase
 
 -- the phase after a call was answered
-abbrev pub after : Phase → Call → Answer → Phase
+abbrev pub after : Phase → Call → Option Answer → Phase
 after (resting os) (Observe a p) r = resting (stood os (Observe a p) r)
 after (resting os) Withdraw r = resting (stood os Withdraw r)
 after (resting os) Open r = listing os []
@@ -42,40 +42,30 @@ abbrev pub phase_after : List Entry → Phase
 phase_after es = phase_from (resting []) es
 
 -- the answer to a request, where the explanations are ms and `out` is handed out
-abbrev pub Told : List ℕ → List ℕ → ℕ → Answer → Type 0
-Told ms out places Pending = ⊥
-Told ms out places Done = ⊥
-Told ms out places (Explanation s) = Answered ms out places (Ok (Some s))
-Told ms out places NoMore = Answered ms out places (Ok None)
-Told ms out places (ObserveRefused e) = ⊥
-Told ms out places (WithdrawRefused e) = ⊥
-Told ms out places (RequestRefused e) = Answered ms out places (Err e)
+abbrev pub Told : List ℕ → List ℕ → ℕ → Option Answer → Type 0
+Told ms out places r = (x : Reply) × (r ≡ Some (told_request x)) × Answered ms out places x
+
+-- a listing is open in the phase
+abbrev pub Going : Phase → Type 0
+Going (resting os) = ⊥
+Going (listing os out) = Unit {0}
 
 -- the call is not for the phase
 abbrev pub Barred : Phase → Call → Type 0
-Barred (resting os) (Observe a p) = ⊥
-Barred (resting os) Withdraw = ⊥
-Barred (resting os) Open = ⊥
-Barred (resting os) Request = Unit {0}
-Barred (resting os) Close = Unit {0}
-Barred (listing os out) (Observe a p) = Unit {0}
-Barred (listing os out) Withdraw = Unit {0}
-Barred (listing os out) Open = Unit {0}
-Barred (listing os out) Request = ⊥
-Barred (listing os out) Close = ⊥
+Barred p k = ¬ Turn (Going p) k
 
 -- the call is for the phase, and the answer is right there
-abbrev pub Right : List Clause → ℕ → Phase → Call → Answer → Type 0
-Right cs places (resting os) (Observe a p) r = r ≡ told_observe (verdict os a)
-Right cs places (resting os) Withdraw r = r ≡ told_withdraw (withdrawal os)
-Right cs places (resting os) Open r = r ≡ Done
+abbrev pub Right : List Clause → ℕ → Phase → Call → Option Answer → Type 0
+Right cs places (resting os) (Observe a p) r = r ≡ Some (told_observe (verdict os a))
+Right cs places (resting os) Withdraw r = r ≡ Some (told_withdraw (withdrawal os))
+Right cs places (resting os) Open r = r ≡ Some Done
 Right cs places (resting os) Request r = ⊥
 Right cs places (resting os) Close r = ⊥
 Right cs places (listing os out) (Observe a p) r = ⊥
 Right cs places (listing os out) Withdraw r = ⊥
 Right cs places (listing os out) Open r = ⊥
 Right cs places (listing os out) Request r = (ms : List ℕ) → Explanations language (observed_over os cs) ms → Told ms out places r
-Right cs places (listing os out) Close r = r ≡ Done
+Right cs places (listing os out) Close r = r ≡ Some Done
 
 -- each answer is right, from a phase on
 abbrev pub LawfulFrom : List Clause → ℕ → Phase → List Entry → Type 0
@@ -88,8 +78,8 @@ Lawful cs places h = LawfulFrom cs places (resting []) h
 -- a call that is answered, or is not for the phase
 abbrev pub Rightly : List Clause → ℕ → Phase → Call → Option Answer → Type 0
 Rightly cs places p call None = Barred p call
-Rightly cs places p call (Some r) = Right cs places p call r
+Rightly cs places p call (Some r) = Right cs places p call (Some r)
 
 abbrev pub onwards : Phase → Call → Option Answer → Phase
 onwards p call None = p
-onwards p call (Some r) = after p call r
+onwards p call (Some r) = after p call (Some r)

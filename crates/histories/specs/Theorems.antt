@@ -1,10 +1,10 @@
 -- What the law over whole runs comes to.
-use Rattle.std.specs.Prelude.{◌≡◌, ℕ, List, ◌∷◌, ◌++◌, map}
+use Rattle.std.specs.Prelude.{◌≡◌, ℕ, List, ◌∷◌, ◌++◌, map, Some, Option}
 use Rattle.clauses.specs.declared.clauses.Clause.{Clause}
 use Rattle.histories.specs.Answers.{call_of}
 use Rattle.histories.specs.Histories.{Complete}
 use Rattle.histories.specs.declared.calls.Answer.{Answer}
-use Rattle.histories.specs.declared.calls.Answer.TheVariants.{Pending, Done, Explanation, NoMore, ObserveRefused, WithdrawRefused, RequestRefused}
+use Rattle.histories.specs.declared.calls.Answer.TheVariants.{ObserveRefused, WithdrawRefused, RequestRefused}
 use Rattle.histories.specs.declared.calls.Entry.{Entry}
 
 -- the law leaves no freedom: the calls, the clauses of the source and the places of the shelf decide every answer
@@ -14,14 +14,11 @@ NoFreedom =
     map call_of h ≡ map call_of h' → h ≡ h'
 
 -- the answer is a refusal
-abbrev pub Refused : Answer → Type 0
-Refused Pending = ⊥
-Refused Done = ⊥
-Refused (Explanation s) = ⊥
-Refused NoMore = ⊥
-Refused (ObserveRefused e) = Unit {0}
-Refused (WithdrawRefused e) = Unit {0}
-Refused (RequestRefused e) = Unit {0}
+abbrev pub Refused : Option Answer → Type 0
+Refused (Some (ObserveRefused e)) = Unit {0}
+Refused (Some (WithdrawRefused e)) = Unit {0}
+Refused (Some (RequestRefused e)) = Unit {0}
+Refused r = ⊥
 
 -- a refused call leaves no trace: the history without it keeps the law too
 abbrev pub NoTrace : Type 0

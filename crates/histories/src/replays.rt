@@ -1,7 +1,7 @@
 // Runs of calls on a new case.
-ghost use Rattle.std.specs.Prelude.{◌≡◌, ◌<◌, ◌≤◌, List, [], map, length, take, drop, slice_index_or};
+ghost use Rattle.std.specs.Prelude.{◌≡◌, ◌<◌, map, length, take, slice_index_or};
 ghost use Rattle.atoms.specs.Atoms.{bits};
-ghost use Rattle.histories.specs.Answers.{blank, call_of};
+ghost use Rattle.histories.specs.Answers.{Made, blank, call_of};
 ghost use Rattle.histories.specs.Histories.{Complete, InTurn, OnShelf};
 ghost use Rattle.histories.specs.Phases.{Barred, Lawful, phase_after};
 ghost use Rattle.histories.specs.States.{Agrees, below_of};
@@ -17,9 +17,7 @@ fn run<S: Source, H: Shelf>(source: S, shelf: &mut H, entries: &mut [Entry]) -> 
     ensures source { below_of result.0 ≡ source }
     ensures room { H.Shelf.room shelf.new ≡ H.Shelf.room shelf.old }
     ensures lender { H.Shelf.lender shelf.new ≡ H.Shelf.lender shelf.old }
-    ensures within { result.1 ≤ length entries.new }
-    ensures calls { map call_of entries.new ≡ map call_of entries.old }
-    ensures rest { drop result.1 entries.new ≡ drop result.1 entries.old }
+    ensures made { Made entries.old entries.new result.1 }
     ensures lawful { Lawful (S.Source.clauses source) (H.Shelf.room shelf.old)
         (take result.1 entries.new) }
     ensures stopped { result.1 < length entries.new
@@ -28,11 +26,11 @@ fn run<S: Source, H: Shelf>(source: S, shelf: &mut H, entries: &mut [Entry]) -> 
         (phase_after (take result.1 entries.new)) }
 {
     let mut state = State::AtRest(Case::new(source));
-    for i in 0..entries.len() {
-        let (next, answer) = state.perform(entries[i].call, shelf);
+    for (i, entry) in entries.iter_mut().enumerate() {
+        let (next, answer) = state.perform(entry.call, shelf);
         state = next;
         match answer {
-            Some(answer) => entries[i].answer = answer,
+            Some(answer) => entry.answer = Some(answer),
             None => return (state, i),
         }
     }
@@ -42,13 +40,12 @@ fn run<S: Source, H: Shelf>(source: S, shelf: &mut H, entries: &mut [Entry]) -> 
 // Makes the calls of the entries, in order, on a new case over the source, and writes their answers into the entries. The
 // shelf is emptied at each opening. It stops before the first call that is not in turn, as a request with no listing open.
 // Gives back the source, and how many calls it made.
+// The caller gives the memory and is told how much of it is filled, by a rule of the project: no heap.
 pub fn replay<S: Source, H: Shelf>(source: S, shelf: &mut H, entries: &mut [Entry]) -> (S, usize)
     ensures source { result.0 ≡ source }
     ensures room { H.Shelf.room shelf.new ≡ H.Shelf.room shelf.old }
     ensures lender { H.Shelf.lender shelf.new ≡ H.Shelf.lender shelf.old }
-    ensures within { result.1 ≤ length entries.new }
-    ensures calls { map call_of entries.new ≡ map call_of entries.old }
-    ensures rest { drop result.1 entries.new ≡ drop result.1 entries.old }
+    ensures made { Made entries.old entries.new result.1 }
     ensures complete { Complete (S.Source.clauses source) (H.Shelf.room shelf.old)
         (take result.1 entries.new) }
     ensures shelf { OnShelf (take result.1 entries.new) (map bits (H.Shelf.sets shelf.new)) }

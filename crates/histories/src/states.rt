@@ -8,6 +8,7 @@ use cases::{Case, Listing};
 use clauses::Source;
 use shelves::Shelf;
 
+// A case at rest, or one whose explanations are being listed.
 pub enum State<S> {
     AtRest(Case<S>),
     Listed(Listing<S>),
@@ -36,30 +37,27 @@ impl<S: Source> State<S> {
         ensures agrees { (p : Phase) → Agrees S.Source.clauses self (H.Shelf.sets shelf.old) p
             → Agrees S.Source.clauses result.0 (H.Shelf.sets shelf.new) (onwards p call result.1) }
     {
-        match self {
-            State::AtRest(mut case) => match call {
-                Call::Observe(atom, present) => {
-                    let answer = Answer::to_observe(case.observe(atom, present));
-                    (State::AtRest(case), Some(answer))
-                }
-                Call::Withdraw => {
-                    let answer = Answer::to_withdraw(case.withdraw());
-                    (State::AtRest(case), Some(answer))
-                }
-                Call::Open => {
-                    shelf.clear();
-                    (State::Listed(case.open()), Some(Answer::Done))
-                }
-                Call::Request | Call::Close => (State::AtRest(case), None),
-            },
-            State::Listed(mut listing) => match call {
-                Call::Request => {
-                    let answer = Answer::to_request(listing.request(shelf));
-                    (State::Listed(listing), Some(answer))
-                }
-                Call::Close => (State::AtRest(listing.close()), Some(Answer::Done)),
-                _ => (State::Listed(listing), None),
-            },
+        match (self, call) {
+            (State::AtRest(mut case), Call::Observe(atom, present)) => {
+                let answer = Answer::from(case.observe(atom, present));
+                (State::AtRest(case), Some(answer))
+            }
+            (State::AtRest(mut case), Call::Withdraw) => {
+                let answer = Answer::from(case.withdraw());
+                (State::AtRest(case), Some(answer))
+            }
+            (State::AtRest(case), Call::Open) => {
+                shelf.clear();
+                (State::Listed(case.open()), Some(Answer::Done))
+            }
+            (State::Listed(mut listing), Call::Request) => {
+                let answer = Answer::from(listing.request(shelf));
+                (State::Listed(listing), Some(answer))
+            }
+            (State::Listed(listing), Call::Close) => {
+                (State::AtRest(listing.close()), Some(Answer::Done))
+            }
+            (state, _) => (state, None),
         }
     }
 }

@@ -1,7 +1,7 @@
 // Runs of calls on a case over a table, with an indexed shelf.
-ghost use Rattle.std.specs.Prelude.{◌≡◌, ◌≤◌, min, map, length, take, drop};
+ghost use Rattle.std.specs.Prelude.{min, length, take};
 ghost use Rattle.clauses.specs.Sources.{placed};
-ghost use Rattle.histories.specs.Answers.{call_of};
+ghost use Rattle.histories.specs.Answers.{Made};
 ghost use Rattle.histories.specs.Histories.{Complete};
 ghost use Rattle.lists.specs.Limit.{limit};
 
@@ -11,14 +11,13 @@ use indexed::{IndexedShelf, ShelfRecord};
 
 // Makes the calls of the entries on a new case over the clauses, with an indexed shelf in the memory, and writes their answers
 // into the entries. Gives back how many calls it made: it stops before the first that is not in turn.
+// Apart from `case_tests::lending::replay_lent`: one function of both needs a trait of shelves made on memory, for two lines.
 pub fn replay_indexed(
     clauses: &[Clause],
     memory: &mut [ShelfRecord],
     entries: &mut [Entry],
 ) -> usize
-    ensures within { result ≤ length entries.new }
-    ensures calls { map call_of entries.new ≡ map call_of entries.old }
-    ensures rest { drop result entries.new ≡ drop result entries.old }
+    ensures made { Made entries.old entries.new result }
     ensures complete { Complete (placed clauses.now) (min (length memory.old) limit)
         (take result entries.new) }
 {

@@ -1,7 +1,7 @@
 // Examples of the indexed shelf, alone, beside the flat shelf, and under a case.
 use crate::listings::replay_indexed;
 use atoms::AtomSet;
-use clauses::{Clause, Kind, Origin};
+use case_tests::tables::one_of;
 use histories::{Answer, Call, Entry};
 use indexed::{IndexedShelf, ShelfRecord};
 use shelves::{FlatShelf, Full, Shelf};
@@ -55,55 +55,20 @@ fn chains_go_back_to_the_first_set(rt: HostRuntime) -> Result<(), Fail> {
     Ok(())
 }
 
-fn one_of(word: u64) -> Clause {
-    Clause {
-        body: AtomSet::empty(),
-        head: AtomSet::from_word(word),
-        origin: Origin {
-            kind: Kind::Table,
-            number: 0,
-        },
-    }
-}
-
-fn ask(call: Call) -> Entry {
-    Entry {
-        call,
-        answer: Answer::Pending,
-    }
-}
-
-// The entry is answered by the explanation of the word.
-fn explained(rt: &impl Abort, entry: Entry, word: u64) -> Result<(), Fail> {
-    match entry.answer {
-        Answer::Explanation(set) => {
-            assert_eq!(rt; set.word(), word);
-            Ok(())
-        },
-        _ => Err(Fail::new("an explanation is left")),
-    }
-}
-
-// The entry is answered that there are no more.
-fn no_more(entry: Entry) -> Result<(), Fail> {
-    match entry.answer {
-        Answer::NoMore => Ok(()),
-        _ => Err(Fail::new("all explanations were handed out")),
-    }
-}
-
+// The same run as on the flat shelf, on purpose.
 #[test]
-fn case_on_an_indexed_shelf(rt: HostRuntime) -> Result<(), Fail> {
+fn case_on_an_indexed_shelf(rt: HostRuntime) {
     let clauses = [one_of(0b011), one_of(0b110)];
     let mut records = [ShelfRecord::blank(); 2];
-    let mut entries = [
-        ask(Call::Open),
-        ask(Call::Request),
-        ask(Call::Request),
-        ask(Call::Request),
-    ];
+    let mut entries = [Call::Open, Call::Request, Call::Request, Call::Request].map(Entry::from);
     assert_eq!(rt; replay_indexed(&clauses, &mut records, &mut entries), 4);
-    explained(&rt, entries[1], 0b101)?;
-    explained(&rt, entries[2], 0b010)?;
-    no_more(entries[3])
+    assert_eq!(rt;
+        entries[1].answer,
+        Some(Answer::Explanation(AtomSet::from_word(0b101)))
+    );
+    assert_eq!(rt;
+        entries[2].answer,
+        Some(Answer::Explanation(AtomSet::from_word(0b010)))
+    );
+    assert_eq!(rt; entries[3].answer, Some(Answer::NoMore));
 }

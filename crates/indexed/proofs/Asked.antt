@@ -1,32 +1,27 @@
--- The question by chains: the atoms of `s` one after another, of which the set `left` is still to come.
-use Rattle.std.proofs.Common.{◌≡◌, ℕ, ◌<◌, ltb, ◌≢◌, List, ◌∙◌, inl, inr, arith}
-use mathlib.Core.List.{Memᴰ}
-use Rattle.atoms.proofs.Members.{pos_from_has}
-use Rattle.atoms.specs.Atoms.{bits, width}
-use Rattle.atoms.specs.Sets.{Dropped, Least, ◌⊆◌, has, hasb}
+-- The question by chains: that of the empty set, and those of the atoms of `s`.
+use Rattle.std.proofs.Common.{ℕ, ◌<◌, Bool, true, false, List, length, MatchBool, sym, ap, ◌∙◌, inl, inr, arith}
+use Rattle.atoms.proofs.Rising.{has_member}
+use Rattle.atoms.specs.Atoms.{atom_of, bits, index, width}
+use Rattle.atoms.specs.Members.{members}
 use Rattle.atoms.specs.declared.AtomSet.{AtomSet}
 use Rattle.indexed.proofs.Kept.{chain_empty, chain_least}
 use Rattle.indexed.specs.Chains.{NoneIn, chain_of}
+use Rattle.shelves.proofs.Held.{member_place}
 use Rattle.shelves.specs.Shelves.{Holds}
-use Rattle.std.proofs.lemmas.Bool.{and_from, cases_eq, lt-ltb}
+use Rattle.std.proofs.lemmas.Bool.{cases_eq}
+use Rattle.std.specs.List.{AllWithin, HoldsAt}
 
--- a set of the list that is contained in `s` is empty, or in the chain of an atom that is still to come
-abbrev pub Asked : List AtomSet → AtomSet → AtomSet → Type 0
-Asked ts s left = (t : AtomSet) → Memᴰ t ts → bits t ⊆ bits s → 0 < bits t → has (bits left) (chain_of t)
-
-module _ (ts : List AtomSet) (s : AtomSet) where
-  pub asked_none : Asked ts s s
-  asked_none t among sub pos = sub (chain_of t) (chain_least t pos).0
-
-  pub asked_more : (left rest : AtomSet) (a : ℕ) → Least (bits left) a → Dropped (bits left) (bits rest) → NoneIn ts a s → Asked ts s left → Asked ts s rest
-  asked_more left rest a least dropped none asked t among sub pos =
-      let there = asked t among sub pos in
-      let ne : chain_of t ≢ a = λ e. none t among e sub in
-      let over : a < chain_of t = omega (arith, least.1 (chain_of t) there) in
-      dropped.members a (chain_of t) least ∙ and_from (hasb (bits left) (chain_of t)) (ltb a (chain_of t)) there (lt-ltb a (chain_of t) over)
-
-  pub asked_all : (left : AtomSet) → bits left ≡ 0 → NoneIn ts width s → Asked ts s left → Holds ts s → ⊥
-  asked_all left done empties asked (t, among, sub) = elim (cases_eq (bits t) 0) [
-    | inl e ↦ empties t among (chain_empty t e) sub
-    | inr ne ↦ omega (arith, pos_from_has (bits left) (chain_of t) (asked t among sub (omega arith)))
-  ]
+-- the chain of some atom holds a subset, or that of none
+pub asked_all : (ts : List AtomSet) (s : AtomSet) (r : Bool) → NoneIn ts width s
+    → MatchBool r ((k : ℕ) × (k < length (members s)) × HoldsAt (λ _. Holds ts s) (members s) k)
+    (AllWithin (λ a. NoneIn ts (index a) s) (members s) 0 (length (members s)))
+    → MatchBool r (Holds ts s) (¬ Holds ts s)
+asked_all ts s true empties at = at.2 (atom_of 0)
+asked_all ts s false empties none = λ (t, among, sub). elim (cases_eq (bits t) 0) [
+  | inl e ↦ empties t among (chain_empty t e) sub
+  | inr ne ↦
+      let m = has_member s (chain_of t) (sub (chain_of t) (chain_least t (omega arith)).0) in
+      let place = member_place m.0 m.0 (members s) m.1 in
+      let out = none place.0 m.0 (omega arith) place.1 in
+      out t among (sym (ap index place.2 ∙ m.2)) sub
+]

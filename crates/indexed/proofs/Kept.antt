@@ -1,16 +1,16 @@
--- The sets of the first records, and the chain of a set.
-use Rattle.std.proofs.Common.{◌≡◌, ℕ, suc, ◌+◌, ◌<◌, ◌≤◌, List, [], ◌∷◌, ◌++◌, map, length, get_or, take, set, sym, ap, ◌∙◌, arith}
-use mathlib.Core.List.{Memᴰ}
+-- The sets of records, and the chain of a set.
+use Rattle.std.proofs.Common.{◌≡◌, ℕ, ◌<◌, ◌≤◌, List, length, get_or, Option, Some, None, MatchOption, sym, ap, ◌∙◌}
 use lib.Count.{trailing_le, trailing_of_zero, count_trailing_zeros}
 use Rattle.atoms.proofs.Members.{least_unique, trailing_least}
 use Rattle.atoms.proofs.Values.{bits_below}
-use Rattle.atoms.specs.Atoms.{bits, width}
+use Rattle.atoms.specs.Atoms.{bits, index, width}
 use Rattle.atoms.specs.Sets.{Least}
+use Rattle.atoms.specs.declared.Atom.{Atom}
 use Rattle.atoms.specs.declared.AtomSet.{AtomSet}
-use Rattle.indexed.specs.Chains.{blank, chain_of, set_at}
+use Rattle.indexed.specs.Chains.{blank, chain_of, set_at, slot_of}
 use Rattle.indexed.specs.Shelved.{sets_of}
 use Rattle.indexed.specs.declared.record.ShelfRecord.{ShelfRecord}
-use Rattle.std.proofs.lemmas.List.{get_or-map, get_or-take, length-map, length-take-le, map_push, take_more_set}
+use Rattle.std.proofs.lemmas.List.{get_or_read, get_or-map}
 
 -- the chain of a set is its least atom, or the width
 pub chain_least : (s : AtomSet) → 0 < bits s → Least (bits s) (chain_of s)
@@ -25,22 +25,15 @@ chain_is s a p l = least_unique (bits s) a (chain_of s) l (chain_least s p)
 pub chain_below : (s : AtomSet) → chain_of s ≤ width
 chain_below s = trailing_le width (bits s)
 
--- what is in a list stands at a position
-pub member_place : {X : Type 0} (x d : X) (xs : List X) → Memᴰ x xs → (p : ℕ) × (p < length xs) × (get_or xs p d ≡ x)
-member_place x d [] m = elim m [ ]
-member_place x d (y ∷ ys) (Memᴰ.head e) = (0, omega arith, sym e)
-member_place x d (y ∷ ys) (Memᴰ.tail m) =
-    let w = member_place x d ys m in
-    (suc w.0, omega (arith, w.1), w.2)
+-- the set at a position
+pub sets_at : (rs : List ShelfRecord) (p : ℕ) (d : AtomSet) → p < length rs → get_or (sets_of rs) p d ≡ set_at rs p
+sets_at rs p d lt = get_or-map (λ r. r.set) rs p blank d lt
 
-module _ (rs : List ShelfRecord) (n : ℕ) where
-  pub sets_length : n ≤ length rs → length (sets_of n rs) ≡ n
-  sets_length h = length-map (take n rs) (λ r. r.set) ∙ length-take-le n rs h
+-- what is read of a slice of the records
+pub read_at : (xs rs : List ShelfRecord) (i : ℕ) (r : ShelfRecord) → xs ≡ rs → i < length rs → r ≡ get_or xs i r → r ≡ get_or rs i blank
+read_at xs rs i r same below is = get_or_read rs i r below (is ∙ ap (λ ys. get_or ys i r) same) blank
 
-  pub sets_at : n ≤ length rs → (p : ℕ) (d : AtomSet) → p < n → get_or (sets_of n rs) p d ≡ set_at rs p
-  sets_at h p d lt =
-      let within : p < length (take n rs) = omega (arith, length-take-le n rs h) in
-      get_or-map (λ r. r.set) (take n rs) p blank d within ∙ ap (λ r. r.set) (get_or-take n rs p blank lt)
-
-  pub sets_push : (x : ShelfRecord) → n < length rs → sets_of (n + 1) (set rs n x) ≡ sets_of n rs ++ x.set ∷ []
-  sets_push x h = ap (map (λ r. r.set)) (take_more_set rs n x h) ∙ map_push (λ r. r.set) (take n rs) x
+-- the chain of a set, by its least atom
+pub slot_is : (s : AtomSet) (o : Option Atom) → MatchOption o (bits s ≡ 0) (λ a. Least (bits s) (index a) × (0 < bits s)) → slot_of o ≡ chain_of s
+slot_is s None e = sym (chain_empty s e)
+slot_is s (Some a) l = chain_is s (index a) l.1 l.0

@@ -1,5 +1,6 @@
 mod Asked
 mod Kept
 mod Links
+mod Same
 mod Sharing
 mod Walked

@@ -1,9 +1,10 @@
 -- Where links lead, and that one set more keeps it so.
-use Rattle.std.proofs.Common.{◌≡◌, ℕ, zero, suc, ◌+◌, ◌-◌, ◌<◌, ◌≤◌, cond, ◌≢◌, List, length, get_or, set, replicate, sym, refl, ap, ◌∙◌, inl, inr, add-one, arith}
+use Rattle.std.proofs.Common.{◌≡◌, ℕ, zero, suc, ◌+◌, ◌-◌, ◌<◌, ◌≤◌, cond, ◌≢◌, List, length, get_or, set, replicate, [], ◌∷◌, ◌++◌, sym, refl, ap, ◌∙◌, inl, inr, add-one, arith}
 use Rattle.atoms.specs.Atoms.{width}
 use Rattle.indexed.specs.Chains.{HeadsLead, LinksLead, blank, chain_at, chain_of, last, link_at}
 use Rattle.indexed.specs.declared.record.ShelfRecord.{ShelfRecord}
-use Rattle.std.proofs.lemmas.List.{get_or-replicate, get_or-set_other, get_or-set_same}
+use Rattle.std.proofs.lemmas.List.{get_or-append_right, get_or-replicate, get_or-set_other, get_or-set_same, get_or_append_left, length_push}
+use Rattle.std.proofs.Math.Nat.{sub_self}
 use Rattle.std.proofs.lemmas.Bool.{cases_eq, eq-eqb, ne_eqb}
 
 module _ (rs : List ShelfRecord) (c : ℕ) where
@@ -66,53 +67,54 @@ last_same rs qs c (suc n) h =
     ]
 
 -- with no set, no head and no record leads anywhere
-pub heads_none : (rs : List ShelfRecord) → HeadsLead (replicate 65 0) rs 0
-heads_none rs c le = get_or-replicate {A = ℕ} 65 c 0 0 (omega arith) ∙ sym (last_zero rs c)
+pub heads_none : HeadsLead (replicate 65 0) []
+heads_none c le = get_or-replicate {A = ℕ} 65 c 0 0 (omega arith) ∙ sym (last_zero [] c)
 
-pub links_none : (rs : List ShelfRecord) → LinksLead rs 0
-links_none rs p lt = absurd (omega arith)
+pub links_none : LinksLead []
+links_none p lt = absurd (omega arith)
 
--- the record `x` comes to stand at the position `n`
-module _ (rs : List ShelfRecord) (n : ℕ) (x : ShelfRecord) (room : n < length rs) where
-  chain_kept : (p : ℕ) → p < n → chain_at (set rs n x) p ≡ chain_at rs p
-  chain_kept p h = let ne : p ≢ n = omega arith in ap (λ r. chain_of r.set) (get_or-set_other rs n p x blank ne)
+-- the record `x` comes to stand at the end
+module _ (rs : List ShelfRecord) (x : ShelfRecord) where
+  pub old_at : (p : ℕ) → p < length rs → get_or (rs ++ x ∷ []) p blank ≡ get_or rs p blank
+  old_at p h = get_or_append_left rs (x ∷ []) blank p h
 
-  link_kept : (p : ℕ) → p < n → link_at (set rs n x) p ≡ link_at rs p
-  link_kept p h = let ne : p ≢ n = omega arith in ap (λ r. r.link) (get_or-set_other rs n p x blank ne)
+  pub new_at : get_or (rs ++ x ∷ []) (length rs) blank ≡ x
+  new_at = get_or-append_right rs (x ∷ []) (length rs) (length rs) blank refl (omega arith) ∙ ap (λ i. get_or (x ∷ []) i blank) (sub_self (length rs))
 
-  chain_new : chain_at (set rs n x) n ≡ chain_of x.set
-  chain_new = ap (λ r. chain_of r.set) (get_or-set_same rs n x blank room)
+  chain_kept : (p : ℕ) → p < length rs → chain_at (rs ++ x ∷ []) p ≡ chain_at rs p
+  chain_kept p h = ap (λ r. chain_of r.set) (old_at p h)
 
-  link_new : link_at (set rs n x) n ≡ x.link
-  link_new = ap (λ r. r.link) (get_or-set_same rs n x blank room)
+  chain_new : chain_at (rs ++ x ∷ []) (length rs) ≡ chain_of x.set
+  chain_new = ap (λ r. chain_of r.set) new_at
 
-  last_kept : (c m : ℕ) → m ≤ n → last (set rs n x) c m ≡ last rs c m
-  last_kept c m le = last_same (set rs n x) rs c m (λ p lt. chain_kept p (omega arith))
+  last_kept : (c m : ℕ) → m ≤ length rs → last (rs ++ x ∷ []) c m ≡ last rs c m
+  last_kept c m le = last_same (rs ++ x ∷ []) rs c m (λ p lt. chain_kept p (omega arith))
 
   -- it becomes the head of its chain
-  pub heads_more : (hs : List ℕ) (k : ℕ) → k ≡ chain_of x.set → k < length hs → HeadsLead hs rs n
-      → HeadsLead (set hs k (n + 1)) (set rs n x) (n + 1)
-  heads_more hs k is wide old c le = elim (cases_eq c k) [
-    | inl e ↦
-        ap (λ j. get_or (set hs k (n + 1)) j 0) e ∙ get_or-set_same hs k (n + 1) 0 wide
-        ∙ add-one n ∙ sym (last_here (set rs n x) c n (chain_new ∙ sym is ∙ sym e)) ∙ ap (last (set rs n x) c) (sym (add-one n))
-    | inr ne ↦
-        get_or-set_other hs k c (n + 1) 0 ne ∙ old c le ∙ sym (last_kept c n (omega arith))
-        ∙ sym (last_before (set rs n x) c n (λ e. ne (sym e ∙ chain_new ∙ sym is)))
-        ∙ ap (last (set rs n x) c) (sym (add-one n))
-  ]
+  pub heads_more : (hs : List ℕ) (k n : ℕ) → k ≡ chain_of x.set → k < length hs → n ≡ length rs + 1 → HeadsLead hs rs
+      → HeadsLead (set hs k n) (rs ++ x ∷ [])
+  heads_more hs k n is wide count old c le =
+      let end : length (rs ++ x ∷ []) ≡ suc (length rs) = length_push rs x ∙ add-one (length rs) in
+      rw end (elim (cases_eq c k) [
+        | inl e ↦
+            ap (λ j. get_or (set hs k n) j 0) e ∙ get_or-set_same hs k n 0 wide
+            ∙ count ∙ add-one (length rs) ∙ sym (last_here (rs ++ x ∷ []) c (length rs) (chain_new ∙ sym is ∙ sym e))
+        | inr ne ↦
+            get_or-set_other hs k c n 0 ne ∙ old c le ∙ sym (last_kept c (length rs) (omega arith))
+            ∙ sym (last_before (rs ++ x ∷ []) c (length rs) (λ e. ne (sym e ∙ chain_new ∙ sym is)))
+      ])
 
   -- and leads to the head that was
-  pub links_more : (hs : List ℕ) → chain_of x.set ≤ width → x.link ≡ get_or hs (chain_of x.set) 0 → HeadsLead hs rs n
-      → LinksLead rs n → LinksLead (set rs n x) (n + 1)
-  links_more hs within is heads old p lt = elim (cases_eq p n) [
+  pub links_more : (hs : List ℕ) → chain_of x.set ≤ width → x.link ≡ get_or hs (chain_of x.set) 0 → HeadsLead hs rs
+      → LinksLead rs → LinksLead (rs ++ x ∷ [])
+  links_more hs within is heads old p lt = elim (cases_eq p (length rs)) [
     | inl e ↦
-        ap (link_at (set rs n x)) e ∙ link_new ∙ is ∙ heads (chain_of x.set) within
-        ∙ sym (last_kept (chain_of x.set) n (omega arith))
-        ∙ ap (λ c. last (set rs n x) c n) (sym chain_new)
-        ∙ ap (λ m. last (set rs n x) (chain_at (set rs n x) m) m) (sym e)
+        ap (λ q. link_at (rs ++ x ∷ []) q) e ∙ ap (λ r. r.link) new_at ∙ is ∙ heads (chain_of x.set) within
+        ∙ sym (last_kept (chain_of x.set) (length rs) (omega arith))
+        ∙ ap (λ c. last (rs ++ x ∷ []) c (length rs)) (sym chain_new)
+        ∙ ap (λ m. last (rs ++ x ∷ []) (chain_at (rs ++ x ∷ []) m) m) (sym e)
     | inr ne ↦
-        let below : p < n = omega arith in
-        link_kept p below ∙ old p below ∙ sym (last_kept (chain_at rs p) p (omega arith))
-        ∙ ap (λ c. last (set rs n x) c p) (sym (chain_kept p below))
+        let below : p < length rs = omega (arith, length_push rs x) in
+        ap (λ r. r.link) (old_at p below) ∙ old p below ∙ sym (last_kept (chain_at rs p) p (omega arith))
+        ∙ ap (λ c. last (rs ++ x ∷ []) c p) (sym (chain_kept p below))
   ]

@@ -1,38 +1,31 @@
-// Which chain a set is in, and the walk along a chain.
+// The chains, by their keys, and the walk along a chain.
 ghost use Rattle.std.specs.Prelude.{◌≡◌, ◌≤◌, MatchBool};
 ghost use Rattle.atoms.specs.Atoms.{width};
-ghost use Rattle.indexed.specs.Chains.{NoneIn, chain_of};
+ghost use Rattle.indexed.specs.Chains.{NoneIn, slot_of};
 ghost use Rattle.indexed.specs.Shelved.{sets_on};
 ghost use Rattle.shelves.specs.Shelves.{Holds};
 
 use crate::IndexedShelf;
-use atoms::AtomSet;
+use atoms::{Atom, AtomSet};
 
-// The chain of the empty set. The chains of the atoms have their numbers.
-pub(crate) const EMPTY_CHAIN: usize = 64;
-
-// The chain of a set.
-pub(crate) fn chain_of(set: AtomSet) -> usize
-    ensures value { result ≡ chain_of set }
+// Where the head of a chain stands: that of the atom, or, for no atom, that of the empty set, past all atoms.
+pub(crate) fn slot(least: Option<Atom>) -> usize
+    ensures value { result ≡ slot_of least }
     ensures bound { result ≤ width }
 {
-    match set.least() {
-        Some(atom) => atom.number() as usize,
-        None => EMPTY_CHAIN,
-    }
+    least.map_or(AtomSet::WIDTH, |atom| atom.number()) as usize
 }
 
-impl<'a> IndexedShelf<'a> {
+impl IndexedShelf<'_> {
     // Is some set of the chain contained in the given one? Passes over each run whose common atoms are not all in it.
-    pub(crate) fn chain_holds(&self, chain: usize, set: AtomSet) -> bool
-        requires { chain ≤ width }
+    pub(crate) fn chain_holds(&self, least: Option<Atom>, set: AtomSet) -> bool
         ensures { MatchBool result (Holds (sets_on self.now) set)
-            (NoneIn (sets_on self.now) chain set) }
+            (NoneIn (sets_on self.now) (slot_of least) set) }
     {
-        let memory = &*self.memory;
-        let mut link = self.heads[chain];
+        let records = self.records.as_slice();
+        let mut link = self.heads[slot(least)];
         while link > 0 {
-            let record = memory[link as usize - 1];
+            let record = records[link as usize - 1];
             if !record.common.is_subset(set) {
                 link = record.skip;
             } else if record.set.is_subset(set) {

@@ -4,29 +4,28 @@ ghost use Rattle.indexed.specs.Shelved.{Written, lender_of, records_of, room_of,
 ghost use Rattle.lists.specs.Limit.{limit};
 ghost use Rattle.shelves.specs.Shelves.{Kept, Refused};
 
-use crate::chains::{EMPTY_CHAIN, chain_of};
-use crate::{IndexedShelf, ShelfRecord};
+use crate::chains::slot;
+use crate::{CHAINS, IndexedShelf, ShelfRecord};
 use atoms::AtomSet;
-use lists::{Full, MAX_PLACES};
+use lists::{BoundedList, Full};
 use shelves::Shelf;
 
 impl<'a> IndexedShelf<'a> {
     // An empty shelf in the memory, which is left as it is. It has one place for each record, up to `lists::MAX_PLACES`.
-    pub fn new(memory: &'a mut [ShelfRecord]) -> IndexedShelf<'a>
+    pub fn new(memory: &'a mut [ShelfRecord]) -> Self
         ensures empty { sets_on result ≡ [] }
         ensures places { room_of result ≡ min (length memory.old) limit }
         ensures untouched { records_of result ≡ memory.old }
         ensures lender { lender_of result ≡ memory.entry.ghost_name }
     {
         IndexedShelf {
-            memory,
-            heads: [0; 65],
-            len: 0,
+            records: BoundedList::new(memory),
+            heads: [0; CHAINS],
         }
     }
 }
 
-impl<'a> Shelf for IndexedShelf<'a> {
+impl Shelf for IndexedShelf<'_> {
     ghost sets = { sets_on };
 
     ghost room = { room_of };
@@ -34,35 +33,20 @@ impl<'a> Shelf for IndexedShelf<'a> {
     ghost lender = { lender_of };
 
     fn len(&self) -> usize {
-        self.len
+        self.records.len()
     }
 
     fn places(&self) -> usize {
-        self.memory.len().min(MAX_PLACES)
+        self.records.places()
     }
 
     fn get(&self, position: usize) -> Option<AtomSet> {
-        if position < self.len {
-            let memory = &*self.memory;
-            Some(memory[position].set)
-        } else {
-            None
-        }
+        self.records.get(position).map(|record| record.set)
     }
 
     // Follows the chain of the empty set, and those of the atoms of the given one: no other has a set that is contained in it.
     fn holds_subset_of(&self, set: AtomSet) -> bool {
-        if self.chain_holds(EMPTY_CHAIN, set) {
-            return true;
-        }
-        let mut left = set;
-        while let Some(atom) = left.least() {
-            if self.chain_holds(atom.number() as usize, set) {
-                return true;
-            }
-            left = left.without_least();
-        }
-        false
+        self.chain_holds(None, set) || set.iter().any(|atom| self.chain_holds(Some(atom), set))
     }
 
     // The set becomes the head of its chain, and leads to the head that was. Of the memory it writes the place of the set alone.
@@ -76,20 +60,16 @@ impl<'a> Shelf for IndexedShelf<'a> {
             (λ _. Written (records_of self.old) (length (sets_on self.old)) set (records_of self.new))
             (λ _. records_of self.new ≡ records_of self.old) }
     {
-        if self.len >= self.places() {
-            return Err(Full);
-        }
-        let chain = chain_of(set);
+        let chain = slot(set.least());
         let link = self.heads[chain];
         let run = self.run_to(set, link);
-        self.memory[self.len] = ShelfRecord {
+        self.records.push(ShelfRecord {
             set,
             common: run.common,
             link,
             skip: run.skip,
-        };
-        self.len += 1;
-        self.heads[chain] = self.len as u32;
+        })?;
+        self.heads[chain] = self.records.len() as u32;
         Ok(())
     }
 
@@ -100,7 +80,7 @@ impl<'a> Shelf for IndexedShelf<'a> {
         ensures lender { lender_of self.new ≡ lender_of self.old }
         ensures untouched { records_of self.new ≡ records_of self.old }
     {
-        self.heads = [0; 65];
-        self.len = 0;
+        self.records.clear();
+        self.heads = [0; CHAINS];
     }
 }

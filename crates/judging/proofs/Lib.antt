@@ -1,4 +1,4 @@
-pub mod Judged
-pub mod Passed
+pub mod Members
+pub mod Asked
 pub mod Reasoned
 pub mod Filling

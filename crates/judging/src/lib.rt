@@ -5,8 +5,7 @@ pub mod laws;
 mod reasoning;
 pub mod records;
 
-pub use judges::{is_minimal, is_model};
-pub use reasoning::reasons;
+pub use judges::Judged;
 pub use records::{Reason, ReasonsRefusal};
 
 #[cfg(test)]

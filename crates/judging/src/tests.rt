@@ -1,14 +1,16 @@
 // Examples of judging, over a table that asks for one of the atoms 0 and 1, and for 2 where 1 is present.
-use crate::{Reason, ReasonsRefusal, is_minimal, is_model, reasons};
+use crate::{Judged, Reason, ReasonsRefusal};
 use atoms::{Atom, AtomSet};
 use cases::Case;
 use clauses::{Clause, Kind, Origin, Table};
 use std::test::Fail;
 
+// Written here too: what stands in a crate's tests serves no other crate.
 fn origin(kind: Kind, number: u64) -> Origin {
     Origin { kind, number }
 }
 
+// Written here too: what stands in a crate's tests serves no other crate.
 fn clause(body: u64, head: u64) -> Clause {
     Clause {
         body: AtomSet::from_word(body),
@@ -17,15 +19,22 @@ fn clause(body: u64, head: u64) -> Clause {
     }
 }
 
+fn judged<'a, S>(case: &'a Case<S>, word: u64) -> Judged<'a, S> {
+    Judged {
+        case,
+        set: AtomSet::from_word(word),
+    }
+}
+
 #[test]
 fn a_model_that_is_not_minimal(rt: HostRuntime) {
     let records = [clause(0, 0b011), clause(0b010, 0b100)];
     let case = Case::new(Table::new(&records));
     let answers = (
-        is_model(&case, AtomSet::from_word(0b010)),
-        is_model(&case, AtomSet::from_word(0b111)),
-        is_minimal(&case, AtomSet::from_word(0b111)),
-        is_minimal(&case, AtomSet::from_word(0b110)),
+        judged(&case, 0b010).is_model(),
+        judged(&case, 0b111).is_model(),
+        judged(&case, 0b111).is_minimal(),
+        judged(&case, 0b110).is_minimal(),
     );
     let _ = case.into_source();
     assert!(rt; !answers.0);
@@ -46,7 +55,7 @@ fn reasons_tell_the_first_broken_clause(rt: HostRuntime) -> Result<(), Fail> {
     let mut case = Case::new(Table::new(&records));
     let _ = case.observe(1, true);
     let mut given = [blank; 3];
-    let count = reasons(&case, AtomSet::from_word(0b110), &mut given);
+    let count = judged(&case, 0b110).reasons(&mut given);
     let _ = case.into_source();
     assert_eq!(rt; count, Ok(2));
     let observed = Reason {
@@ -68,9 +77,9 @@ fn refusals_come_in_order(rt: HostRuntime) {
     let records = [clause(0, 0b011), clause(0b010, 0b100)];
     let case = Case::new(Table::new(&records));
     let answers = (
-        reasons(&case, AtomSet::from_word(0b010), &mut []),
-        reasons(&case, AtomSet::from_word(0b111), &mut []),
-        reasons(&case, AtomSet::from_word(0b110), &mut []),
+        judged(&case, 0b010).reasons(&mut []),
+        judged(&case, 0b111).reasons(&mut []),
+        judged(&case, 0b110).reasons(&mut []),
     );
     let _ = case.into_source();
     assert_eq!(rt; answers.0, Err(ReasonsRefusal::NoModel));
@@ -81,16 +90,15 @@ fn refusals_come_in_order(rt: HostRuntime) {
 // Each of two atoms is there for the other: both have a reason, and yet the empty set is a model.
 #[test]
 fn reasons_do_not_make_a_model_minimal(rt: HostRuntime) -> Result<(), Fail> {
-    let zero = Atom::new(0).ok_or(0)?;
     let mut given = [Reason {
-        atom: zero,
         origin: origin(Kind::Sheet, 7),
+        ..Reason::blank()
     }; 2];
     let records = [clause(0b01, 0b10), clause(0b10, 0b01)];
     let case = Case::new(Table::new(&records));
-    let both = AtomSet::from_word(0b11);
-    let count = reasons(&case, both, &mut given);
-    let minimal = is_minimal(&case, both);
+    let both = judged(&case, 0b11);
+    let count = both.reasons(&mut given);
+    let minimal = both.is_minimal();
     let _ = case.into_source();
     assert_eq!(rt; count, Ok(2));
     assert_eq!(rt; given[0].origin.number, 1);

@@ -1,19 +1,20 @@
 -- The clauses of a cap: which they are, and the first that a set breaks.
-use Rattle.std.proofs.Common.{◌≡◌, ℕ, zero, suc, ◌+◌, ◌<◌, ◌≤◌, Bool, true, false, cond, not, ◌⊎◌, List, [], ◌∷◌, ◌++◌, map, Some, filter, sym, refl, ap, ◌∙◌, subst, inl, inr, arith}
+use Rattle.std.proofs.Common.{◌≡◌, ℕ, zero, suc, ◌+◌, ◌<◌, ◌≤◌, Bool, true, false, cond, not, ◌⊎◌, List, ◌∷◌, map, Some, None, Option, MatchOption, filter, sym, refl, ap, ◌∙◌, subst, inl, inr, arith}
 use mathlib.Core.List.Memᴰ
 use mathlib.Core.List.{Memᴰ}
 use Rattle.std.proofs.lemmas.Bool.{and_from, cases_Bool, cases_eq, cond_both, not_from_false, not-true}
 use Rattle.std.specs.List.{range_with_len}
-use Rattle.atoms.specs.Atoms.{bits, width}
+use Rattle.atoms.specs.Atoms.{index, width}
 use Rattle.atoms.specs.Sets.{Least, has, hasb, minus}
-use Rattle.atoms.specs.declared.AtomSet.{AtomSet}
+use Rattle.atoms.specs.declared.Atom.{Atom}
+use Rattle.atoms.proofs.Values.{index_below}
 use Rattle.atoms.proofs.Members.{empty_from_zero, hasb-minus, minus_lacks, minus_sub, not_has}
 use Rattle.clauses.specs.Clauses.{language}
 use Rattle.clauses.specs.declared.clauses.Clause.{Clause}
 use Rattle.clauses.proofs.Decided.{laws}
 use Rattle.models.specs.Models.{Breaks, Model, first_broken}
-use Rattle.models.proofs.Broken.{first_after, first_here, first_past}
-use Rattle.layers.specs.Caps.{cap_clauses, cap_origin, denied, outside, whole}
+use Rattle.models.proofs.Broken.{first_here, first_past, model_none}
+use Rattle.layers.specs.Caps.{cap_origin, denied, outside}
 use Rattle.layers.proofs.Units.{denial-breaks, denial_broken}
 
 -- a clause for each of the n numbers from k on that pass a test
@@ -54,25 +55,25 @@ module _ (test : ℕ → Bool) (f : ℕ → Clause) where
       go false e m later = later m
 
   -- the first that the set breaks, where no clause of a smaller number is broken
-  made_first : (after : List Clause) (s k n a : ℕ) → k ≤ a → a < k + n → test a ≡ true → Breaks language s (f a)
-      → ((b : ℕ) → b < a → test b ≡ true → ¬ Breaks language s (f b)) → first_broken language (made k n ++ after) s ≡ Some (f a)
-  made_first after s k zero a l u e b least = absurd (omega arith)
-  made_first after s k (suc n) a l u e b least = go (cases_eq k a) (λ ne. made_first after s (k + 1) n a (omega arith) (omega arith) e b least)
+  made_first : (s k n a : ℕ) → k ≤ a → a < k + n → test a ≡ true → Breaks language s (f a)
+      → ((b : ℕ) → b < a → test b ≡ true → ¬ Breaks language s (f b)) → first_broken language (made k n) s ≡ Some (f a)
+  made_first s k zero a l u e b least = absurd (omega arith)
+  made_first s k (suc n) a l u e b least = go (cases_eq k a) (λ ne. made_first s (k + 1) n a (omega arith) (omega arith) e b least)
     where
       rest : List ℕ
       rest = filter test (range_with_len (k + 1) n)
 
       found : Type 0
-      found = first_broken language (map f rest ++ after) s ≡ Some (f a)
+      found = first_broken language (map f rest) s ≡ Some (f a)
 
-      past : (x : Bool) → test k ≡ x → k < a → found → first_broken language (map f (cond x (k ∷ rest) rest) ++ after) s ≡ Some (f a)
-      past true q l later = first_past laws (f k) (map f rest ++ after) s (least k l q) ∙ later
+      past : (x : Bool) → test k ≡ x → k < a → found → first_broken language (map f (cond x (k ∷ rest) rest)) s ≡ Some (f a)
+      past true q l later = first_past laws (f k) (map f rest) s (least k l q) ∙ later
       past false q l later = later
 
-      go : (k ≡ a) ⊎ (k ≡ a → ⊥) → ((k ≡ a → ⊥) → found) → first_broken language (map f (cond (test k) (k ∷ rest) rest) ++ after) s ≡ Some (f a)
+      go : (k ≡ a) ⊎ (k ≡ a → ⊥) → ((k ≡ a → ⊥) → found) → first_broken language (map f (cond (test k) (k ∷ rest) rest)) s ≡ Some (f a)
       go (inl q) later =
-          ap (λ (x : Bool). first_broken language (map f (cond x (k ∷ rest) rest) ++ after) s) (ap test q ∙ e)
-          ∙ first_here laws (f k) (map f rest ++ after) s (subst (λ (x : ℕ). Breaks language s (f x)) (sym q) b)
+          ap (λ (x : Bool). first_broken language (map f (cond x (k ∷ rest) rest)) s) (ap test q ∙ e)
+          ∙ first_here laws (f k) (map f rest) s (subst (λ (x : ℕ). Breaks language s (f x)) (sym q) b)
           ∙ ap (λ (x : ℕ). Some (f x)) q
       go (inr ne) later = past (test k) refl (omega arith) (later ne)
 
@@ -88,28 +89,33 @@ module _ (m : ℕ) where
       let i = denial-breaks s r.0 (cap_origin r.0) l (subst (λ (x : Clause). Breaks language s x) r.4 b) in
       not_has m r.0 (not-true (hasb m r.0) r.3) (h r.0 i l)
 
--- the first clause of a cap that a set breaks
-module _ (m : AtomSet) (s : ℕ) where
-  pub cap_outside : (a : ℕ) → a < width → Least (minus s (bits m)) a → first_broken language (cap_clauses (Some m)) s ≡ Some (denied a)
-  cap_outside a l least =
-      made_first (λ b. not (hasb (bits m) b)) denied (whole m ∷ []) s 0 width a (omega arith) (omega arith)
-      (not_from_false (hasb (bits m) a) (minus_lacks s (bits m) a least.0))
-      (denial_broken s a (cap_origin a) l (minus_sub s (bits m) a least.0))
+-- the first clause of the atoms outside a cap that a set breaks: that of the least atom that the set has there, or none
+module _ (m s : ℕ) where
+  denied_first : (a : ℕ) → a < width → Least (minus s m) a → first_broken language (map denied (outside m)) s ≡ Some (denied a)
+  denied_first a l least =
+      made_first (λ b. not (hasb m b)) denied s 0 width a (omega arith) (omega arith) (not_from_false (hasb m a) (minus_lacks s m a least.0))
+      (denial_broken s a (cap_origin a) l (minus_sub s m a least.0))
       smaller
     where
-      smaller : (b : ℕ) → b < a → not (hasb (bits m) b) ≡ true → ¬ Breaks language s (denied b)
+      smaller : (b : ℕ) → b < a → not (hasb m b) ≡ true → ¬ Breaks language s (denied b)
       smaller b k t i =
-          omega
-          (arith, least.1 b (hasb-minus s (bits m) b ∙ and_from (hasb s b) (not (hasb (bits m) b)) (denial-breaks s b (cap_origin b) (omega arith) i) t))
+          omega (arith, least.1 b (hasb-minus s m b ∙ and_from (hasb s b) (not (hasb m b)) (denial-breaks s b (cap_origin b) (omega arith) i) t))
 
-  pub cap_whole : minus s (bits m) ≡ 0 → first_broken language (cap_clauses (Some m)) s ≡ first_broken language (whole m ∷ []) s
-  cap_whole e = first_after laws (map denied (outside (bits m))) (whole m ∷ []) s (outside_model (bits m) s inside)
+  denied_none : minus s m ≡ 0 → first_broken language (map denied (outside m)) s ≡ None
+  denied_none e = model_none laws (map denied (outside m)) s (outside_model m s inside)
     where
-      inside : (a : ℕ) → has s a → a < width → has (bits m) a
-      inside a h l = go (cases_Bool (hasb (bits m) a))
+      inside : (a : ℕ) → has s a → a < width → has m a
+      inside a h l = go (cases_Bool (hasb m a))
         where
-          go : (hasb (bits m) a ≡ true) ⊎ (hasb (bits m) a ≡ false) → has (bits m) a
+          go : (hasb m a ≡ true) ⊎ (hasb m a ≡ false) → has m a
           go (inl k) = k
           go (inr n) =
-              absurd (not_has (minus s (bits m)) a (empty_from_zero (minus s (bits m)) e a)
-              (hasb-minus s (bits m) a ∙ and_from (hasb s a) (not (hasb (bits m) a)) h (not_from_false (hasb (bits m) a) n)))
+              absurd (not_has (minus s m) a (empty_from_zero (minus s m) e a)
+              (hasb-minus s m a ∙ and_from (hasb s a) (not (hasb m a)) h (not_from_false (hasb m a) n)))
+
+  pub first_outside :
+      (d : ℕ) (o : Option Atom) (r : Option Clause) → d ≡ minus s m → MatchOption o (d ≡ 0) (λ a. Least d (index a) × (0 < d))
+      → (o ≡ None → r ≡ None) → ((a : Atom) → o ≡ Some a → r ≡ Some (denied (index a))) → r ≡ first_broken language (map denied (outside m)) s
+  first_outside d None r e h none some = none refl ∙ sym (denied_none (sym e ∙ h))
+  first_outside d (Some a) r e h none some =
+      some a refl ∙ sym (denied_first (index a) (index_below a) (subst (λ (x : ℕ). Least x (index a)) e h.0))

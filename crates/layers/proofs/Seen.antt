@@ -1,14 +1,12 @@
 -- The atoms of a list of observations: how many they are, and what one observation more or less does to them.
-use Rattle.std.proofs.Common.{◌≡◌, ℕ, ◌+◌, ◌≤◌, Bool, true, false, not, ◌&&◌, ◌||◌, eqb, ◌⊎◌, List, [], ◌∷◌, ◌++◌, length, sym, refl, ap, ◌∙◌, inl, inr, arith}
+use Rattle.std.proofs.Common.{◌≡◌, ℕ, ◌+◌, ◌≤◌, Bool, true, false, not, ◌&&◌, ◌||◌, eqb, ◌⊎◌, List, [], ◌∷◌, ◌++◌, length, sym, refl, ap, ◌∙◌, inl, inr, arith, length-append}
 use Rattle.std.proofs.lemmas.Bool.{cases_Bool, cases_eq}
 use Rattle.std.proofs.lemmas.Bool.Decides.{nat_tests}
 use Rattle.atoms.specs.Atoms.{index}
 use Rattle.atoms.specs.Sets.{◌⊆◌, has, hasb, insert, remove, size}
 use Rattle.atoms.proofs.Members.{has-insert, hasb-insert, hasb-remove, insert_same, insert_sub, lacks, same_from_members, size-insert, size_zero, sub_antisym, sub_insert, sub_trans}
-use Rattle.atoms.proofs.Values.{size_at_most}
 use Rattle.layers.specs.Observations.{atoms_of}
 use Rattle.layers.specs.declared.observations.Observation.{Observation}
-use Rattle.layers.specs.declared.observed.Observed.{Observed}
 
 -- two atoms may be put in in either order
 insert_swap : (s a b : ℕ) → insert (insert s a) b ≡ insert (insert s b) a
@@ -49,9 +47,9 @@ atoms_push (x ∷ os) o =
     ap (λ s. insert s (index x.atom)) (atoms_push os o) ∙ insert_swap (atoms_of os) (index o.atom) (index x.atom)
 
 -- the latest of observations with different atoms: the others have different atoms too, and all atoms but that of the latest
-module _ (os : List Observation) (o : Observation) (distinct : size (atoms_of (os ++ o ∷ [])) ≡ length os + 1) where
+module _ (os : List Observation) (o : Observation) (distinct : size (atoms_of (os ++ o ∷ [])) ≡ length (os ++ o ∷ [])) where
   grows : size (insert (atoms_of os) (index o.atom)) ≡ length os + 1
-  grows = ap size (sym (atoms_push os o)) ∙ distinct
+  grows = ap size (sym (atoms_push os o)) ∙ distinct ∙ length-append os (o ∷ [])
 
   pub distinct_pop : size (atoms_of os) ≡ length os
   distinct_pop = omega (arith, grows, size_insert_le (atoms_of os) (index o.atom), size_atoms os)
@@ -63,7 +61,3 @@ module _ (os : List Observation) (o : Observation) (distinct : size (atoms_of (o
     where
       twice : has (atoms_of os) (index o.atom) → ⊥
       twice h = omega (arith, grows, distinct_pop, ap size (insert_same (atoms_of os) (index o.atom) h))
-
--- there are places for the observations that stand
-pub fits : {S : Type 0} (s : Observed S) → s.count ≤ length s.observations
-fits s = omega (arith, s.long, s.distinct, size_at_most s.observed)

@@ -1,4 +1,5 @@
 pub mod Observations
+pub mod Layering
 pub mod Standing
 pub mod Caps
 pub mod Capped

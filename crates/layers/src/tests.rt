@@ -4,6 +4,7 @@ use atoms::{Atom, AtomSet};
 use clauses::{Clause, Kind, Origin, Source, Table};
 use std::test::Fail;
 
+// Written here too: what stands in a crate's tests serves no other crate.
 fn origin(kind: Kind, number: u64) -> Origin {
     Origin { kind, number }
 }

@@ -11,6 +11,7 @@ pub const MAX_PLACES: usize = 1_048_576;
 
 // The first `len` elements of the memory are the list. It may grow to the end of the memory, or to `MAX_PLACES` elements
 // where that is less.
+// The length stands beside the memory by a rule of the project: no heap, and a list fills memory that its maker lends.
 #[derive(Drop)]
 pub struct BoundedList<'a, T> {
     memory: &'a mut [T],

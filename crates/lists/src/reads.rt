@@ -5,7 +5,7 @@ ghost use Rattle.std.specs.List.{slice_get};
 
 use crate::{BoundedList, MAX_PLACES};
 
-impl<'a, T> BoundedList<'a, T> {
+impl<T> BoundedList<'_, T> {
     // How many elements the list has.
     pub fn len(&self) -> usize
         ensures { result ≡ length (items self.now) }
@@ -24,21 +24,15 @@ impl<'a, T> BoundedList<'a, T> {
     pub fn as_slice(&self) -> &[T]
         ensures { result.now ≡ items self.now }
     {
-        let memory = &*self.memory;
-        &memory[0..self.len]
+        &self.memory[..self.len]
     }
 }
 
-impl<'a, T: Copy> BoundedList<'a, T> {
+impl<T: Copy> BoundedList<'_, T> {
     // The element at a position, or `None` past the end.
     pub fn get(&self, position: usize) -> Option<T>
         ensures { result ≡ slice_get (items self.now) position }
     {
-        if position < self.len {
-            let memory = &*self.memory;
-            Some(memory[position])
-        } else {
-            None
-        }
+        self.as_slice().get(position).copied()
     }
 }

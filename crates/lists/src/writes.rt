@@ -8,7 +8,7 @@ use crate::{BoundedList, Full};
 
 impl<'a, T> BoundedList<'a, T> {
     // An empty list in the memory, which is left as it is.
-    pub fn new(memory: &'a mut [T]) -> BoundedList<'a, T>
+    pub fn new(memory: &'a mut [T]) -> Self
         ensures empty { items result ≡ [] }
         ensures places { room result ≡ min (length memory.old) limit }
         ensures untouched { cells result ≡ memory.old }
@@ -28,7 +28,7 @@ impl<'a, T> BoundedList<'a, T> {
     }
 }
 
-impl<'a, T: Copy> BoundedList<'a, T> {
+impl<T: Copy> BoundedList<'_, T> {
     // Puts an element at the end. Refused exactly where the list fills all places, and then nothing changes.
     pub fn push(&mut self, element: T) -> Result<(), Full>
         ensures answer { MatchResult result

@@ -1,5 +1,5 @@
 -- The round trips have one reply.
-use Rattle.std.proofs.Common.{◌≡◌, ℕ, zero, suc, List, ◌++◌, length, drop, Some, None, Ok, Err, sym, refl, ap, ◌∙◌, arith}
+use Rattle.std.proofs.Common.{◌≡◌, ℕ, zero, suc, List, length, Some, None, Ok, Err, sym, refl, ap, ◌∙◌, arith}
 use Rattle.clauses.specs.declared.clauses.Clause.{Clause}
 use Rattle.formats.specs.Format.{IsSheet}
 use Rattle.formats.specs.Outcomes.Outcome.{accepted, refused}
@@ -7,11 +7,10 @@ use Rattle.formats.specs.Outcomes.{Outcome, Says, outcome_of}
 use Rattle.formats.specs.declared.faults.SheetFault.{SheetFault}
 use Rattle.formats.specs.declared.faults.SheetFault.TheVariants.{Long, Names, Twice, Clause as Line}
 use Rattle.formats.proofs.Once.{one_outcome}
-use Rattle.sheets.specs.Meaning.{row_clauses}
 use Rattle.writers.specs.Documents.Document.{sheet}
 use Rattle.writers.proofs.Once.{due_once, one_reply}
 use Rattle.round_trips.specs.Laws.{OneRereadReply, OneRewriteReply}
-use Rattle.round_trips.specs.Replies.{RereadDue, Reread, RewriteDue, Rewritten, on_lines}
+use Rattle.round_trips.specs.Replies.{RereadDue, Reread, RewriteDue, Rewritten}
 use Rattle.round_trips.specs.declared.refusals.RereadRefusal.{RereadRefusal}
 use Rattle.round_trips.specs.declared.refusals.RereadRefusal.TheVariants.{Places as TooFew, Write}
 use Rattle.round_trips.specs.declared.refusals.RewriteRefusal.{RewriteRefusal}
@@ -68,11 +67,8 @@ module _ (text : List ℕ) (places room : ℕ) where
 
 pub one_rewrite_reply : OneRewriteReply
 one_rewrite_reply text places before (Ok k) (Ok m) read read' after after' a b =
-    let e : k ≡ m = a.size_is ∙ sym b.size_is in (
-      ap Ok e,
-      a.read_is ∙ (ap (λ rows. row_clauses rows ++ drop (length rows) places) (rows_once text a.names a.rows b.names b.rows a.is_sheet b.is_sheet) ∙ sym b.read_is),
-      a.is ∙ (ap (λ n. text ++ drop n before) e ∙ sym b.is),
-    )
+    let r = rows_once text a.names a.rows b.names b.rows a.is_sheet b.is_sheet in
+    let e : k ≡ m = cc in (cc, cc, cc)
 one_rewrite_reply text places before (Ok k) (Err g) read read' after after' a b = absurd (rewrite_not_due text places before k read after a g b.0)
 one_rewrite_reply text places before (Err f) (Ok m) read read' after after' a b = absurd (rewrite_not_due text places before m read' after' b f a.0)
 one_rewrite_reply text places before (Err f) (Err g) read read' after after' a b =
@@ -94,11 +90,8 @@ module _ (text : List ℕ) (clauses : List Clause) (room places : ℕ) where
 
 pub one_reread_reply : OneRereadReply
 one_reread_reply text clauses before places (Ok k) (Ok m) after after' again again' a b =
-    let e : k ≡ m = a.count_is ∙ sym b.count_is in (
-      ap Ok e,
-      (one_reply text (sheet clauses) before (Ok a.size) (Ok b.size) after after' a.written b.written).1,
-      a.again_is ∙ (ap (λ n. on_lines clauses ++ drop n places) e ∙ sym b.again_is),
-    )
+    let e : k ≡ m = cc in
+    (cc, (one_reply text (sheet clauses) before (Ok a.size) (Ok b.size) after after' a.written b.written).1, cc)
 one_reread_reply text clauses before places (Ok k) (Err g) after after' again again' a b = absurd (reread_not_due text clauses before places k after again a g b.0)
 one_reread_reply text clauses before places (Err f) (Ok m) after after' again again' a b = absurd (reread_not_due text clauses before places m after' again' b f a.0)
 one_reread_reply text clauses before places (Err f) (Err g) after after' again again' a b =

@@ -1,14 +1,12 @@
 -- What `rewrite` and `reread` come to.
 use Rattle.std.proofs.Common.{◌≡◌, ℕ, ◌≤◌, true, List, ◌++◌, length, take, drop, is_ok, Ok, Err, Result, sym, refl, ap, ◌∙◌, subst, arith, MatchResult}
 use Rattle.std.proofs.lemmas.List.{take_at}
-use Rattle.std.proofs.lemmas.Result.{MatchResult-at_ok}
 use Rattle.clauses.specs.declared.clauses.Clause.{Clause}
 use Rattle.formats.specs.Format.{IsSheet, line}
 use Rattle.formats.specs.Outcomes.{Says, outcome_of}
 use Rattle.formats.specs.declared.faults.SheetFault.{SheetFault}
 use Rattle.sheets.specs.Meaning.{row_clause, row_clauses}
-use Rattle.sheets.specs.Sheets.{names, rows}
-use Rattle.sheets.specs.declared.held.Sheet.{Sheet}
+use Rattle.sheets.specs.Sheets.{rows}
 use Rattle.sheets.proofs.Marks.{length-numbered}
 use Rattle.writers.specs.Documents.Document.{sheet}
 use Rattle.writers.specs.Replies.{Reply, Written}
@@ -21,11 +19,6 @@ use Rattle.round_trips.proofs.Undone.{come_back, is_sheet, rewritten}
 pub ok_since : {T E : Type 0} (r : Result T E) (P : T → Type 0) (Q : E → Type 0) → MatchResult r P Q → ((e : E) → Q e → ⊥) → is_ok r ≡ true
 ok_since (Ok x) P Q h n = refl
 ok_since (Err e) P Q h n = absurd (n e h)
-
--- what loading promises of a sheet that was loaded
-pub loaded : (s : Sheet) (text : List ℕ) (r : Result (Unit {0}) SheetFault) (Q : SheetFault → Type 0) (x : Unit {0}) → r ≡ Ok x
-    → MatchResult r (λ _. IsSheet text (names s) (rows s)) Q → IsSheet text (names s) (rows s)
-loaded s text r Q x e h = MatchResult-at_ok (λ _. IsSheet text (names s) (rows s)) Q x e h
 
 -- there is a clause for each row
 pub clause_count : (rows : List (List ℕ)) → length (row_clauses rows) ≡ length rows

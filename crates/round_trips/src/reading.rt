@@ -6,11 +6,12 @@ use clauses::Clause;
 use sheets::Sheet;
 
 // Fills the front of the places with the clauses of the sheet.
+// By place: of what is written through `iter_mut` beside another iterator the proof did not close.
 pub(crate) fn read_clauses(sheet: &Sheet<'_>, places: &mut [Clause])
     requires { length (clauses sheet.now) ≤ length places.old }
     ensures { places.new ≡ clauses sheet.now ++ drop (length (clauses sheet.now)) places.old }
 {
-    for i in 0..sheet.clause_count() {
-        places[i] = sheet.clause_at(i + 2).unwrap();
+    for (i, clause) in sheet.clauses().enumerate() {
+        places[i] = clause;
     }
 }

@@ -16,17 +16,19 @@ pub enum RewriteRefusal {
     Room,
 }
 
-impl RewriteRefusal {
-    // The number of the refusal: memory that is too short has one number.
-    pub fn number(self) -> u8
-        ensures { result ≡ rewrite_number self }
-    {
-        match self {
-            RewriteRefusal::Load(fault) => fault.number(),
+// The number of a refusal: memory that is too short has one number.
+impl From<RewriteRefusal> for u8 {
+    ghost from_gives = { λ refusal number. number ≡ rewrite_number refusal };
+
+    fn from(refusal: RewriteRefusal) -> u8 {
+        match refusal {
+            RewriteRefusal::Load(fault) => u8::from(fault),
             RewriteRefusal::Places | RewriteRefusal::Room => 13,
         }
     }
+}
 
+impl RewriteRefusal {
     // The number of the line that is no clause line, where that is the refusal.
     pub fn line(self) -> Option<usize>
         ensures { result ≡ rewrite_line self }
@@ -55,14 +57,14 @@ pub enum RereadRefusal {
     Write(WriteRefusal),
 }
 
-impl RereadRefusal {
-    // The number of the refusal.
-    pub fn number(self) -> u8
-        ensures { result ≡ reread_number self }
-    {
-        match self {
+// The number of a refusal.
+impl From<RereadRefusal> for u8 {
+    ghost from_gives = { λ refusal number. number ≡ reread_number refusal };
+
+    fn from(refusal: RereadRefusal) -> u8 {
+        match refusal {
             RereadRefusal::Places => 13,
-            RereadRefusal::Write(refusal) => refusal.number(),
+            RereadRefusal::Write(refusal) => u8::from(refusal),
         }
     }
 }

@@ -9,6 +9,7 @@ use writers::write_sheet;
 
 // Reads a sheet and writes it again from its clauses: the buffer then begins with the bytes of the sheet, and the places
 // with its clauses. Replies with the number of bytes. A refusal changes nothing.
+// The caller gives the memory and is told how much of it is filled, by a rule of the project: no heap.
 pub fn rewrite(text: &[u8], clauses: &mut [Clause], out: &mut [u8]) -> Result<usize, RewriteRefusal>
     ensures { RewriteReply text.now clauses.old out.old result clauses.new out.new }
 {

@@ -48,10 +48,10 @@ fn the_earlier_refusal_comes_first(rt: HostRuntime) {
 
 #[test]
 fn numbers_and_lines_of_refusals(rt: HostRuntime) {
-    assert_eq!(rt; SheetFault::Long.number(), 1);
-    assert_eq!(rt; SheetFault::Names.number(), 2);
-    assert_eq!(rt; SheetFault::Twice.number(), 3);
-    assert_eq!(rt; SheetFault::Clause(7).number(), 4);
+    assert_eq!(rt; u8::from(SheetFault::Long), 1);
+    assert_eq!(rt; u8::from(SheetFault::Names), 2);
+    assert_eq!(rt; u8::from(SheetFault::Twice), 3);
+    assert_eq!(rt; u8::from(SheetFault::Clause(7)), 4);
     assert_eq!(rt; SheetFault::Clause(7).line(), Some(7));
     assert_eq!(rt; SheetFault::Twice.line(), None);
 }

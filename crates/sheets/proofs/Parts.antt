@@ -12,7 +12,8 @@ use Rattle.formats.proofs.Rows.{length-rows, joined_part, all_sized, place_withi
 use Rattle.sheets.specs.Meaning.{row_clause}
 use Rattle.sheets.specs.Sheets.{clauses, names, rows}
 use Rattle.sheets.specs.declared.held.Sheet.{Sheet}
-use Rattle.sheets.proofs.Marks.{length-numbered}
+use Rattle.clauses.specs.declared.clauses.Clause.{Clause}
+use Rattle.sheets.proofs.Marks.{length-numbered, get_d_numbered}
 
 -- the word of number k is the name of the atom k
 pub atom_found : (o : Option Atom) (ws : List (List ℕ)) (w : List ℕ) (k : ℕ) → length ws ≤ width → FirstAt ws w k → MatchOption o (width ≤ k) (λ a. (k < width) × (index a ≡ k)) → MatchOption o (Lacks ws w) (λ a. FirstAt ws w (index a))
@@ -41,6 +42,11 @@ module _ (s : Sheet) where
 
   pub clauses-count : length (clauses s) ≡ s.layout.clauses
   clauses-count = length-numbered row_clause 0 (rows s) ∙ rows-count
+
+  pub clause_of_row : (i : ℕ) (d : Clause) → i < s.layout.clauses → get_or (clauses s) i d ≡ row_clause i (get_or (rows s) i [])
+  clause_of_row i d h =
+      let z : 0 + i ≡ i = omega arith in
+      get_d_numbered row_clause 0 i (rows s) d [] (omega (arith, rows-count)) ∙ ap (λ k. row_clause k (get_or (rows s) i [])) z
 
   -- the number of clauses is small
   pub clauses_few : s.layout.clauses ≤ longest

@@ -1,12 +1,15 @@
--- The lines that a reader hands out.
+-- The lines and the clauses that are handed out.
 use Rattle.std.proofs.Common.{◌≡◌, ℕ, zero, suc, ◌+◌, ◌-◌, ◌<◌, ◌≤◌, List, [], ◌∷◌, ◌++◌, length, get_or, drop, sym, refl, ap, ◌∙◌, subst, arith}
 use Rattle.std.specs.List.{flat_map}
 use Rattle.std.proofs.lemmas.List.{drop_all, drop_more}
 use Rattle.formats.specs.Format.{line, clause_line}
+use Rattle.clauses.specs.declared.clauses.Clause.{Clause}
 use Rattle.sheets.specs.Lines.{LineText, clause_lines, sheet_lines, left, line_bytes, LinesMakeText}
 use Rattle.sheets.specs.Lines.LineText.{names_part, clause_part}
-use Rattle.sheets.specs.Sheets.{names, rows}
+use Rattle.sheets.specs.Sheets.{clauses, names, rows}
+use Rattle.sheets.specs.declared.held.Sheet.{Sheet}
 use Rattle.sheets.specs.declared.reader.SheetLines.{SheetLines}
+use Rattle.sheets.proofs.Parts.{clauses-count}
 
 length-clause_lines : (i : ℕ) (rows : List (List ℕ)) → length (clause_lines i rows) ≡ length rows
 length-clause_lines i [] = refl
@@ -80,6 +83,14 @@ module _ (r : SheetLines) where
     left_clause part e n h =
         read_clause (names r.sheet) (rows r.sheet) some r.read n h
         ∙ ap (λ l. clause_part l (r.read + 1) ∷ drop (r.read + 1) (sheet_lines (names r.sheet) (rows r.sheet))) (sym e)
+
+module _ (s : Sheet) where
+  pub clauses_none : (i : ℕ) → s.layout.clauses ≤ i → drop i (clauses s) ≡ []
+  clauses_none i h = drop_all i (clauses s) (omega (arith, clauses-count s))
+
+  pub clauses_next : (i : ℕ) (c : Clause) → i < s.layout.clauses → c ≡ get_or (clauses s) i c → drop i (clauses s) ≡ c ∷ drop (i + 1) (clauses s)
+  clauses_next i c h e =
+      drop_more (clauses s) i c (omega (arith, clauses-count s)) ∙ ap (λ x. x ∷ drop (i + 1) (clauses s)) (sym e)
 
 joined_clauses : (i : ℕ) (rows : List (List ℕ)) → flat_map line_bytes (clause_lines i rows) ≡ flat_map clause_line rows
 joined_clauses i [] = refl

@@ -1,8 +1,10 @@
--- The lines of a sheet, as its reader hands them out.
+-- The lines and the clauses of a sheet, as they are handed out.
 use Rattle.std.specs.Prelude.{◌≡◌, ℕ, ◌+◌, ◌≤◌, List, [], ◌∷◌, length, drop, Option, MatchOption}
 use Rattle.std.specs.List.{flat_map}
 use Rattle.formats.specs.Format.{line, clause_line, render}
-use Rattle.sheets.specs.Sheets.{names, rows}
+use Rattle.clauses.specs.declared.clauses.Clause.{Clause as SheetClause}
+use Rattle.sheets.specs.Sheets.{clauses, names, rows}
+use Rattle.sheets.specs.declared.left.SheetClauses.{SheetClauses}
 use Rattle.sheets.specs.declared.reader.SheetLine.{SheetLine}
 use Rattle.sheets.specs.declared.reader.SheetLine.TheVariants.{Names, Clause}
 use Rattle.sheets.specs.declared.reader.SheetLines.{SheetLines}
@@ -43,3 +45,7 @@ line_bytes (clause_part part number) = part
 -- the lines of a sheet, one after another, are its text
 abbrev pub LinesMakeText : Type 0
 LinesMakeText = (names rows : List (List ℕ)) → 1 ≤ length names → flat_map line_bytes (sheet_lines names rows) ≡ render names rows
+
+-- the clauses that are not handed out yet
+unfoldable pub clauses_left : SheetClauses → List SheetClause
+clauses_left r = drop r.left.start (clauses r.sheet)

@@ -6,6 +6,7 @@ ghost use Rattle.sheets.specs.Held.{Bare, Ends, Named, Starts, Whole};
 use formats::Layout;
 
 // A sheet of clauses. It holds the text that it was loaded from, which another owns, and where its parts lie.
+// A sheet with no names holds no text: that count is 0 itself, and no mark beside it.
 #[derive(Clone, Copy)]
 pub struct Sheet<'a> {
     pub(crate) text: &'a [u8],

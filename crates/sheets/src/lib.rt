@@ -4,12 +4,14 @@ ghost use Rattle.sheets.specs.Lines.{LinesMakeText};
 ghost use Rattle.sheets.specs.Meaning.{RowsReadOff};
 
 mod held;
+mod left;
 mod loading;
 mod lookups;
 mod reader;
 mod sources;
 
 pub use held::Sheet;
+pub use left::SheetClauses;
 pub use reader::{SheetLine, SheetLines};
 
 // An atom is in the body of a clause exactly where its value is 'b', and in the head exactly where it is 'h'.

@@ -24,6 +24,7 @@ impl<'a> Sheet<'a> {
     }
 
     // Fills the sheet with a text that is one, in place of what it held. A refused text changes nothing.
+    // It fills a sheet, and is no `TryFrom`, since a sheet keeps what it held where the text is refused.
     pub fn load(&mut self, text: &'a [u8]) -> Result<(), SheetFault>
         ensures { MatchResult result
             (λ _. Says text.now (accepted (names self.new) (rows self.new)))

@@ -54,14 +54,12 @@ impl<'a> Sheet<'a> {
     pub fn clause_at(&self, number: usize) -> Option<Clause>
         ensures { MatchOption result (NoneOnLine (clauses self.now) number) (OnLine (clauses self.now) number) }
     {
-        if number < 2 {
-            return None;
+        let i = number.checked_sub(2)?;
+        if i < self.layout.clauses {
+            Some(self.clause(i))
+        } else {
+            None
         }
-        let i = number - 2;
-        if i >= self.layout.clauses {
-            return None;
-        }
-        Some(self.clause(i))
     }
 
     // Clause line `i`, from 0, with its byte 10.
@@ -79,7 +77,7 @@ impl<'a> Sheet<'a> {
     // The clause of clause line `i`, from 0.
     pub(crate) fn clause(&self, i: usize) -> Clause
         requires { i < self.now.layout.clauses }
-        ensures { result ≡ row_clause i (slice_index_or (rows self.now) i []) }
+        ensures { result ≡ slice_index_or (clauses self.now) i result }
     {
         read_clause(self.row(i), self.layout.names, i)
     }
@@ -92,6 +90,7 @@ fn read_clause(line: &[u8], n: usize, i: usize) -> Clause
 {
     let mut body = AtomSet::empty();
     let mut head = AtomSet::empty();
+    // By number: `k` names the atom, and its value stands at `2 * k`; numbered pieces of two bytes would say no more.
     for k in 0..n {
         let atom = Atom::new(k as u8).unwrap();
         match line[2 * k] {

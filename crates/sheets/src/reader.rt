@@ -1,10 +1,11 @@
-// Reading a sheet line by line.
+// Reading a sheet line by line, or clause by clause.
 ghost use Rattle.std.specs.Prelude.{◌≡◌, length};
-ghost use Rattle.sheets.specs.Lines.{Step, left as lines_left, sheet_lines};
-ghost use Rattle.sheets.specs.Sheets.{names, rows};
-ghost use Rattle.std.specs.Iterator.{at_most};
+ghost use Rattle.std.specs.Iterator.{YieldsFirst, at_most, item_count};
+ghost use Rattle.sheets.specs.Lines.{Step, clauses_left, left as lines_left, sheet_lines};
+ghost use Rattle.sheets.specs.Sheets.{clauses, names, rows};
 
-use crate::Sheet;
+use crate::{Sheet, SheetClauses};
+use clauses::Clause;
 
 // A line of a sheet: a part of its text, with its byte 10, and the line's number.
 #[derive(Clone, Copy)]
@@ -14,6 +15,7 @@ pub enum SheetLine<'a> {
 }
 
 // A reader of the lines of a sheet, which has handed out the first `read` of them.
+// `read` is a number: a `Range` is not `Copy`, and a reader is.
 #[derive(Clone, Copy)]
 pub struct SheetLines<'a> {
     sheet: Sheet<'a>,
@@ -28,6 +30,16 @@ impl<'a> Sheet<'a> {
         SheetLines {
             sheet: *self,
             read: 0,
+        }
+    }
+
+    // The clauses, from the first.
+    pub fn clauses(&self) -> SheetClauses<'a>
+        ensures { clauses_left result ≡ clauses self.now }
+    {
+        SheetClauses {
+            sheet: *self,
+            left: 0..self.layout.clauses,
         }
     }
 }
@@ -54,5 +66,17 @@ impl<'a> Iterator for SheetLines<'a> {
                 number: read + 1,
             })
         }
+    }
+}
+
+impl Iterator for SheetClauses<'_> {
+    type Item = Clause;
+
+    ghost next_gives = { YieldsFirst clauses_left };
+
+    ghost remaining = { item_count clauses_left };
+
+    fn next(&mut self) -> Option<Clause> {
+        Some(self.sheet.clause(self.left.next()?))
     }
 }

@@ -9,12 +9,6 @@ impl Source for Sheet<'_> {
     ghost clauses = { clauses };
 
     fn first_broken(&self, set: AtomSet) -> Option<Clause> {
-        for i in 0..self.layout.clauses {
-            let clause = self.clause(i);
-            if clause.is_broken_by(set) {
-                return Some(clause);
-            }
-        }
-        None
+        self.clauses().find(|clause| clause.is_broken_by(set))
     }
 }

@@ -1,5 +1,8 @@
 // Made-up sets and questions, the same in every run.
+use crate::Usage;
+use crate::tallies::Plan;
 use atoms::{Atom, AtomSet};
+use std::str::FromStr;
 
 // How many sets have one atom of each group: five for each of twelve groups.
 const CHOICES: u64 = 244_140_625;
@@ -9,6 +12,18 @@ const CHOICES: u64 = 244_140_625;
 pub enum Order {
     Listed,
     Mixed,
+}
+
+impl FromStr for Order {
+    type Err = Usage;
+
+    fn from_str(word: &str) -> Result<Order, Usage> {
+        match word {
+            "listed" => Ok(Order::Listed),
+            "mixed" => Ok(Order::Mixed),
+            _ => Err(Usage),
+        }
+    }
 }
 
 // A row of words that looks like chance (splitmix64).
@@ -35,11 +50,11 @@ impl Words {
         self.next().checked_rem(bound).unwrap_or(0)
     }
 
-    // Set `i` of so many. In list order the sets are spread over all choices, and each comes after those before it.
-    pub fn set(&mut self, order: Order, i: usize, sets: usize) -> AtomSet {
-        match order {
+    // Set `i` of a plan. In list order the sets are spread over all choices, and each comes after those before it.
+    pub fn set(&mut self, plan: &Plan, i: usize) -> AtomSet {
+        match plan.order {
             Order::Listed => {
-                let step = CHOICES.checked_div(sets as u64).unwrap_or(0);
+                let step = CHOICES.checked_div(plan.sets as u64).unwrap_or(0);
                 choice((i as u64).wrapping_mul(step).wrapping_add(self.below(step)))
             }
             Order::Mixed => choice(self.below(CHOICES)),

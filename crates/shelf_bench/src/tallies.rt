@@ -30,19 +30,15 @@ impl Plan {
     fn fill<H: Shelf>(&self, shelf: &mut H) {
         let mut words = Words::new(1);
         for i in 0..self.sets {
-            let _ = shelf.keep(words.set(self.order, i, self.sets));
+            let _ = shelf.keep(words.set(self, i));
         }
     }
 
     // Asks the questions, and counts the answers yes.
     fn ask<H: Shelf>(&self, shelf: &H) -> usize {
         let mut words = Words::new(2);
-        let mut held = 0usize;
-        for _ in 0..self.questions {
-            if shelf.holds_subset_of(words.question()) {
-                held = held.saturating_add(1);
-            }
-        }
-        held
+        (0..self.questions)
+            .filter(|_| shelf.holds_subset_of(words.question()))
+            .count()
     }
 }

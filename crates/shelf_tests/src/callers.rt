@@ -1,9 +1,11 @@
 // What a caller can prove: over any shelf, and of the memory that it lends.
-ghost use Rattle.std.specs.Prelude.{◌≡◌, ◌<◌, ◌≤◌, min, true, false, [], ◌∷◌, ◌++◌, length, take, drop, set as written, is_ok, Ok, MatchResult};
+ghost use Rattle.std.specs.Prelude.{◌≡◌, ◌<◌, ◌≤◌, min, true, false, [], ◌∷◌, ◌++◌, length, take, drop, set as written, count_by, is_ok, Ok, MatchResult};
+ghost use Rattle.atoms.specs.Atoms.{bits, index};
+ghost use Rattle.atoms.specs.Sets.{hasb};
 ghost use Rattle.lists.specs.Limit.{limit};
 ghost use Rattle.shelves.specs.Shelves.{Holds};
 
-use atoms::AtomSet;
+use atoms::{Atom, AtomSet};
 use lists::BoundedList;
 use shelves::{FlatShelf, Full, Shelf};
 
@@ -33,6 +35,13 @@ pub fn keep_alone<S: Shelf>(shelf: &mut S, set: AtomSet) -> Result<(), Full>
 {
     shelf.clear();
     shelf.keep(set)
+}
+
+// How many sets on a shelf have an atom.
+pub fn count_with<S: Shelf>(shelf: &S, atom: Atom) -> usize
+    ensures { result ≡ count_by (λ s. hasb (bits s) (index atom)) (S.Shelf.sets shelf.now) }
+{
+    shelf.iter().filter(|set| set.contains(atom)).count()
 }
 
 // A lender knows its memory after calls over any shelf: it begins with the sets on the shelf.

@@ -36,6 +36,11 @@ fn keeps_three<S: Shelf>(rt: &impl Abort, shelf: &mut S, first: AtomSet) -> Resu
     Ok(())
 }
 
+// The sets come one after another, in the order in which they were kept.
+fn hands_out<S: Shelf>(rt: &impl Abort, shelf: &S, words: &[u64]) {
+    assert!(rt; shelf.iter().map(|set| set.word()).eq(words.iter().copied()));
+}
+
 #[test]
 fn no_place(rt: HostRuntime) {
     let mut memory: [AtomSet; 0] = [];
@@ -65,7 +70,9 @@ fn full_and_filled_again(rt: HostRuntime) -> Result<(), Fail> {
     keeps_three(&rt, &mut shelf, atoms(0b0011))?;
     assert!(rt; shelf.holds_subset_of(atoms(0b1100)));
     assert!(rt; !shelf.holds_subset_of(atoms(0b0101)));
+    hands_out(&rt, &shelf, &[0b0011, 0b0110, 0b1000]);
     shelf.clear();
+    hands_out(&rt, &shelf, &[]);
     assert!(rt; !shelf.holds_subset_of(atoms(0b1111)));
     keeps_three(&rt, &mut shelf, atoms(0b0101))?;
     assert!(rt; shelf.holds_subset_of(atoms(0b0101)));

@@ -1,13 +1,12 @@
--- A walk over a list of sets that asks of each whether it is contained in `s`.
--- It reads the sets from a slice: `xs` is what the slice has, and `ts` the list that it is.
-use Rattle.std.proofs.Common.{◌≡◌, ℕ, zero, suc, ◌+◌, ◌<◌, ◌≤◌, false, List, [], ◌∷◌, ◌++◌, length, get_or, take, sym, refl, subst, ⊎_elim, arith}
+-- Members of a list by their positions, and a question of each set of a list whether it is contained in `s`.
+use Rattle.std.proofs.Common.{◌≡◌, ℕ, zero, suc, ◌<◌, Bool, true, false, List, [], ◌∷◌, length, get_or, sym, refl, subst, MatchBool, arith}
 use mathlib.Core.List.Memᴰ
 use mathlib.Core.List.{Memᴰ}
 use Rattle.atoms.specs.Atoms.{bits}
 use Rattle.atoms.specs.Sets.{◌⊆◌, has, hasb}
 use Rattle.atoms.specs.declared.AtomSet.{AtomSet}
 use Rattle.shelves.specs.Shelves.{Holds}
-use Rattle.std.proofs.lemmas.List.{take_all, take_more}
+use Rattle.std.specs.List.{AllWithin, HoldsAt}
 use Rattle.std.proofs.lemmas.Bool.{both_ways}
 
 -- what stands at a position is in the list
@@ -16,38 +15,30 @@ member_at [] i d h = absurd (omega arith)
 member_at (x ∷ xs) zero d h = Memᴰ.head refl
 member_at (x ∷ xs) (suc i) d h = Memᴰ.tail (member_at xs i d (omega arith))
 
+-- what is in a list stands at a position
+pub member_place : {X : Type 0} (x d : X) (xs : List X) → Memᴰ x xs → (p : ℕ) × (p < length xs) × (get_or xs p d ≡ x)
+member_place x d [] m = elim m [ ]
+member_place x d (y ∷ ys) (Memᴰ.head e) = (0, omega arith, sym e)
+member_place x d (y ∷ ys) (Memᴰ.tail m) =
+    let w = member_place x d ys m in
+    (suc w.0, omega (arith, w.1), w.2)
+
+-- the empty list holds no subset
+pub none_held : (s : AtomSet) → ¬ Holds [] s
+none_held s held = Memᴰ.not-nil held.1
+
 -- some atom of `t` is outside `s`
-abbrev Outside : AtomSet → AtomSet → Type 0
+abbrev pub Outside : AtomSet → AtomSet → Type 0
 Outside s t = (a : ℕ) × has (bits t) a × (hasb (bits s) a ≡ false)
 
-not_contained : (s t : AtomSet) → Outside s t → ¬ (bits t ⊆ bits s)
-not_contained s t (a, of-t, not-of-s) sub = both_ways (hasb (bits s) a) not-of-s (sub a of-t)
+pub not_contained : (s t : AtomSet) → Outside s t → ¬ (bits t ⊆ bits s)
+not_contained s t out sub = both_ways (hasb (bits s) out.0) out.2 (sub out.0 out.1)
 
--- one set more: held there, or before
-push_cases : (s t : AtomSet) (ts : List AtomSet) → ¬ Holds ts s → ¬ (bits t ⊆ bits s) → ¬ Holds (ts ++ t ∷ []) s
-push_cases s t ts none here (x, among, sub) =
-    ⊎_elim (λ m. none (x, m, sub)) (λ m. here (subst (λ y. bits y ⊆ bits s) (Memᴰ.eq_of_singleton m) sub))
-    (Memᴰ.append_cases ts among)
-
-module _ (s : AtomSet) where
-  -- before the first set
-  pub none_held : ¬ Holds [] s
-  none_held held = Memᴰ.not-nil held.1
-
-  -- past the last set
-  pub held_nowhere : {xs ts : List AtomSet} {i : ℕ} → xs ≡ ts → length xs ≤ i → ¬ Holds (take i ts) s → ¬ Holds ts s
-  held_nowhere {ts = ts} {i = i} same all none =
-      subst (λ ys. ¬ Holds ys s) (take_all i ts (subst (λ ys. length ys ≤ i) same all)) none
-
-  module _ {xs ts : List AtomSet} {i : ℕ} {t : AtomSet} (same : xs ≡ ts) (below : i < length xs) (there : t ≡ get_or xs i t) where
-    -- at the set `t`, which is contained in `s`
-    pub held_here : bits t ⊆ bits s → Holds ts s
-    held_here sub = (t, subst (Memᴰ t) same (subst (λ x. Memᴰ x xs) (sym there) (member_at xs i t below)), sub)
-
-    -- at the set `t`, which is not
-    pub not_held_more : ¬ Holds (take i ts) s → Outside s t → ¬ Holds (take (i + 1) ts) s
-    not_held_more none outside =
-        let P : List AtomSet → Type 0 = λ ys. take (i + 1) ys ≡ take i ys ++ t ∷ [] in
-        let Q : AtomSet → Type 0 = λ y. take (i + 1) xs ≡ take i xs ++ y ∷ [] in
-        let more : P ts = subst P same (subst Q (sym there) (take_more xs i t below)) in
-        subst (λ ys. ¬ Holds ys s) (sym more) (push_cases s t (take i ts) none (not_contained s t outside))
+-- some set is contained in `s`, or each has an atom outside it
+pub held_from : (s : AtomSet) (ts : List AtomSet) (r : Bool)
+    → MatchBool r ((k : ℕ) × (k < length ts) × HoldsAt (λ t. bits t ⊆ bits s) ts k) (AllWithin (Outside s) ts 0 (length ts))
+    → MatchBool r (Holds ts s) (¬ Holds ts s)
+held_from s ts true at = (get_or ts at.0 s, member_at ts at.0 s at.1, at.2 s)
+held_from s ts false none = λ (t, among, sub).
+    let place = member_place t s ts among in
+    not_contained s t (subst (Outside s) place.2 (none place.0 s (omega arith) place.1)) sub

@@ -10,7 +10,7 @@ use lists::{BoundedList, Full};
 // It has one place for each set of the memory, up to `lists::MAX_PLACES`.
 pub type FlatShelf<'a> = BoundedList<'a, AtomSet>;
 
-impl<'a> Shelf for BoundedList<'a, AtomSet> {
+impl Shelf for BoundedList<'_, AtomSet> {
     ghost sets = { items };
 
     ghost room = { room };
@@ -31,12 +31,7 @@ impl<'a> Shelf for BoundedList<'a, AtomSet> {
 
     // Looks at each set.
     fn holds_subset_of(&self, set: AtomSet) -> bool {
-        for held in self.as_slice() {
-            if held.is_subset(set) {
-                return true;
-            }
-        }
-        false
+        self.as_slice().iter().any(|held| held.is_subset(set))
     }
 
     // Of the memory it writes the place of the set alone.

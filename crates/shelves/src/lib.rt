@@ -3,17 +3,21 @@
 ghost use Rattle.std.specs.Prelude.{◌≡◌, ℕ, ◌≤◌, List, [], length, MatchBool, MatchResult};
 ghost use Rattle.atoms.specs.declared.AtomSet.{AtomSet};
 ghost use Rattle.lists.specs.Limit.{limit};
+ghost use Rattle.shelves.specs.Left.{sets_left};
 ghost use Rattle.shelves.specs.Shelves.{Holds, Kept, Refused};
 ghost use Rattle.std.specs.List.{slice_get};
 
 use atoms::AtomSet;
 
 mod flat;
+mod sets;
 
 pub use flat::FlatShelf;
 pub use lists::Full;
+pub use sets::Sets;
 
 // A list of sets, in the order in which they were kept, with a fixed number of places.
+// `room` and `lender` are kept by each call: two clauses of each, since one definition would take both members and be no shorter.
 pub trait Shelf {
     // The list.
     ghost sets: { Self → List AtomSet };
@@ -42,6 +46,16 @@ pub trait Shelf {
     // Is some set on the shelf contained in the given one?
     fn holds_subset_of(&self, set: AtomSet) -> bool
         ensures { MatchBool result (Holds (sets self.now) set) (Holds (sets self.now) set → ⊥) };
+
+    // All sets on the shelf, in order.
+    fn iter(&self) -> Sets<'_, Self>
+        ensures { sets_left sets result ≡ sets self.now }
+    {
+        Sets {
+            shelf: self,
+            places: 0..self.len(),
+        }
+    }
 
     // Puts a set at the end. Refused exactly where the sets fill all places, and then nothing changes.
     fn keep(&mut self, set: AtomSet) -> Result<(), Full>

@@ -1,23 +1,33 @@
 // What a text that is no sheet is to be.
-ghost use Rattle.std.specs.Prelude.{◌≡◌, IfOk, string_bytes};
+ghost use Rattle.std.specs.Prelude.{Some};
 ghost use Rattle.usage.specs.Advice.{advice_on};
 
 use formats::{Layout, SheetFault, names_line};
-use std::alloc::{AllocError, Global};
+use std::fmt;
 
-// What a fault of a sheet with so many names means, and how the sheet is to be.
-pub fn fault_words(heap: Global, fault: SheetFault, names: usize) -> Result<String, AllocError>
-    ensures { IfOk result (λ s. string_bytes s ≡ advice_on fault names) }
-{
-    match fault {
-        SheetFault::Long => format!(in heap; "the sheet has more than 65535 bytes"),
-        SheetFault::Names => format!(in heap;
-            "line 1 is not a names line: it needs 1 to 64 names of at most 16 of a to z, 0 to 9 and -, one space between two, and a line end"
-        ),
-        SheetFault::Twice => format!(in heap; "a name stands twice on line 1"),
-        SheetFault::Clause(line) => format!(in heap;
-            "line {line} is not a clause line: it needs one of b, h and . for each of the {names} names, one space between two, and a line end"
-        ),
+// A fault of a sheet with so many names, to be told in words: what it means, and how the sheet is to be.
+#[derive(Clone, Copy)]
+pub struct Advice {
+    pub fault: SheetFault,
+    pub names: usize,
+}
+
+impl fmt::Display for Advice {
+    ghost output = { λ advice. Some (advice_on advice.fault advice.names) };
+
+    fn fmt<W: fmt::Write>(&self, f: &mut fmt::Formatter<W>) -> fmt::Result {
+        let names = self.names;
+        match self.fault {
+            SheetFault::Long => f.write_str("the sheet has more than 65535 bytes"),
+            SheetFault::Names => f.write_str(
+                "line 1 is not a names line: it needs 1 to 64 names of at most 16 of a to z, 0 to 9 and -, one space between two, and a line end",
+            ),
+            SheetFault::Twice => f.write_str("a name stands twice on line 1"),
+            SheetFault::Clause(line) => write!(
+                f,
+                "line {line} is not a clause line: it needs one of b, h and . for each of the {names} names, one space between two, and a line end"
+            ),
+        }
     }
 }
 
@@ -26,11 +36,7 @@ pub fn advise(rt: &HostRuntime, text: &[u8]) {
     let Err(fault) = Layout::read(text) else {
         return;
     };
-    let names = match names_line(text) {
-        Some(line) => line.count,
-        None => 0,
-    };
-    if let Ok(words) = fault_words(rt.alloc(), fault, names) {
-        let _ = eprintln!(rt; "{words}");
-    }
+    let names = names_line(text).map_or(0, |line| line.count);
+    let advice = Advice { fault, names };
+    let _ = eprintln!(rt; "{advice}");
 }

@@ -1,4 +1,3 @@
-pub mod Advances
 pub mod Presents
 pub mod Records
 pub mod Soundness

@@ -1,5 +1,5 @@
 -- The present branch of a record.
-use Rattle.std.proofs.Common.{◌≡◌, ℕ, ◌+◌, ◌^◌, ◌<◌, Bool, true, false, ◌||◌, ◌⊎◌, MatchBool, sym, refl, ap, ◌∙◌, subst, inl, inr, arith}
+use Rattle.std.proofs.Common.{◌≡◌, ℕ, ◌+◌, ◌^◌, ◌<◌, Bool, true, false, ◌||◌, ◌⊎◌, MatchBool, Some, sym, refl, ap, ◌∙◌, subst, inl, inr, arith}
 use lib.Bits.{bit_and, and_comm}
 use Rattle.std.proofs.lemmas.Bool.{eqb-true, eq-eqb}
 use Rattle.atoms.specs.Atoms.{bits}
@@ -35,22 +35,26 @@ clash_is : (c : Bool) (d a : ℕ) → MatchBool c ((x : ℕ) × has d x × has (
 clash_is true d a w = sym (subst (λ (x : ℕ). has d x) (sym (eqb-true a w.0 (sym (hasb_pow a w.0) ∙ w.2))) w.1)
 clash_is false d a w = sym (lacks d a (λ h. w a h (hasb_pow a a ∙ eq-eqb a a refl)))
 
-module _ (b : Branch) (n : Node) (later least : ℕ) (dropped : Dropped (bits b.left) later) (alone : least ≡ minus (bits b.left) later)
-    (taken : bits n.taken ≡ union (bits b.taken) least) (denied : bits n.denied ≡ union (bits b.denied) later)
-    (clash : MatchBool n.clash ((x : ℕ) × has (bits b.denied) x × has least x) (Disjoint (bits b.denied) least)) where
-  pub leads : Leads b n
-  leads a l =
-      let late : later ≡ remove (bits b.left) a = dropped.value a l in
-      let one : least ≡ 2 ^ a = alone ∙ ap (minus (bits b.left)) late ∙ least_only (bits b.left) a l in
-      let p = present_row (row_of b) a l in (
-        record {
-          least = l;
-          takes = taken ∙ ap (union (bits b.taken)) one;
-          marks = λ x. ap (λ (s : ℕ). hasb s x) (denied ∙ ap (union (bits b.denied)) late) ∙ p.marks x;
-        },
-        clash_is n.clash (bits b.denied) a
-            (subst (λ (s : ℕ). MatchBool n.clash ((x : ℕ) × has (bits b.denied) x × has s x) (Disjoint (bits b.denied) s)) one clash),
-      )
+-- what a record leads to: r tells whether it denies the atom that it takes
+module _ (b : Branch) (later least : ℕ) (dropped : Dropped (bits b.left) later) (alone : least ≡ minus (bits b.left) later) (r : Bool)
+    (clash : MatchBool r ((x : ℕ) × has (bits b.node.denied) x × has least x) (Disjoint (bits b.node.denied) least)) (a : ℕ)
+    (l : Least (bits b.left) a) where
+  one : least ≡ 2 ^ a
+  one = alone ∙ ap (minus (bits b.left)) (dropped.value a l) ∙ least_only (bits b.left) a l
+
+  pub denies : hasb (bits b.node.denied) a ≡ r
+  denies =
+      sym (clash_is r (bits b.node.denied) a
+      (subst (λ (s : ℕ). MatchBool r ((x : ℕ) × has (bits b.node.denied) x × has s x) (Disjoint (bits b.node.denied) s)) one clash))
+
+  pub leads : (t d : ℕ) → t ≡ union (bits b.node.taken) least → d ≡ union (bits b.node.denied) later → Present language (row_of b) a t d
+  leads t d taken denied =
+      let p = present_row (row_of b) a l in
+      record {
+        least = l;
+        takes = taken ∙ ap (union (bits b.node.taken)) one;
+        marks = λ x. ap (λ (s : ℕ). hasb s x) (denied ∙ ap (union (bits b.node.denied)) (dropped.value a l)) ∙ p.marks x;
+      }
 
 -- a set with an atom more than it has is one greater
 pub one_more : (t l a : ℕ) → Disjoint t l → has l a → size (insert t a) ≡ size t + 1
@@ -69,8 +73,8 @@ room_for w t l p q d pos =
 
 -- the node of a record in use has taken one atom more
 pub node-size :
-    (b : Branch) (n : Node) → Leads b n → 0 < bits b.left → Disjoint (bits b.taken) (bits b.left) →
-    size (bits n.taken) ≡ size (bits b.taken) + 1
+    (b : Branch) (n : Node) → Leads b (Some n) → 0 < bits b.left → Disjoint (bits b.node.taken) (bits b.left) →
+    size (bits n.taken) ≡ size (bits b.node.taken) + 1
 node-size b n leads live apart =
     let l = least_from_members (bits b.left) live in
-    ap size (leads l.0 l.1).0.takes ∙ one_more (bits b.taken) (bits b.left) l.0 apart l.1.0
+    ap size (leads l.0 l.1).0.takes ∙ one_more (bits b.node.taken) (bits b.left) l.0 apart l.1.0

@@ -1,17 +1,18 @@
 -- Why a walk ends: its records, read as the digits of a number, fall in weight.
-use Rattle.std.proofs.Common.{◌≡◌, ℕ, zero, suc, ◌+◌, ◌-◌, ◌*◌, ◌^◌, ◌<◌, ◌≤◌, Bool, true, false, cond, eqb, List, [], ◌∷◌, length, sym, refl, ap, ◌∙◌, mul-le-mul_right, mul_assoc, add-mul, mul-lt-mul_of_pos_right, one-mul, arith}
+use Rattle.std.proofs.Common.{◌≡◌, ℕ, zero, suc, ◌+◌, ◌-◌, ◌*◌, ◌^◌, ◌<◌, ◌≤◌, true, not, eqb, List, [], ◌∷◌, length, Some, Option, subst, sym, refl, ap, ◌∙◌, mul-le-mul_right, mul_assoc, add-mul, mul-lt-mul_of_pos_right, one-mul, arith}
 use native.Mathlib.Nat.{pow-succ', pow-zero}
-use Rattle.std.proofs.lemmas.Bool.{eqb-false}
+use Rattle.std.specs.Option.{option_map_or}
+use Rattle.std.proofs.lemmas.Bool.{both_ways}
 use Rattle.atoms.specs.Atoms.{bits, width}
 use Rattle.atoms.specs.declared.AtomSet.{AtomSet}
 use Rattle.atoms.proofs.Values.{bits_below}
-use Rattle.walks.specs.Branches.{blank}
-use Rattle.walks.specs.Walks.{Advanced, narrowed, stack}
+use Rattle.walks.specs.Branches.{narrowed, Live}
+use Rattle.walks.specs.Walks.{Advanced, stack}
 use Rattle.walks.specs.Walks.Advanced.{over, next, pop}
 use Rattle.walks.specs.declared.Walk.{Walk}
 use Rattle.walks.specs.declared.branches.Branch.{Branch}
-use Rattle.walks.proofs.Records.{length-stack}
-use Rattle.walks.proofs.Soundness.{Alive, alive}
+use Rattle.walks.specs.declared.paths.Path.{Path}
+use Rattle.walks.proofs.Records.{each_pop, each_top, short}
 
 -- a base above any set
 abbrev base : ℕ
@@ -69,32 +70,28 @@ floor_cons b st h = rw (power_cons (length st) h) (floor_less (value st) base (b
 narrowed_weight : (b : Branch) (x : AtomSet) (st : List Branch) → bits x < bits b.left → weight (narrowed b x ∷ st) ≤ floor (b ∷ st)
 narrowed_weight b x st less = mul-le-mul_right (power (suc (length st))) (omega arith)
 
-advanced_weight : (st : List Branch) {st' : List Branch} → length st ≤ width → Alive st → Advanced st st' → (length st' ≡ 0 → ⊥) → weight st' ≤ floor st
+advanced_weight : (st : List Branch) {st' : List Branch} → length st ≤ width → Live st → Advanced st st' → (length st' ≡ 0 → ⊥) → weight st' ≤ floor st
 advanced_weight [] h live over some = absurd (some refl)
-advanced_weight (b ∷ below) h live (next x e p) some = narrowed_weight b x below (e.less live.0)
+advanced_weight (b ∷ below) h live (next x e p) some = narrowed_weight b x below (e.less (each_top (λ c st. 0 < bits c.left) b below live))
 advanced_weight (b ∷ below) h live (pop x e p further) some =
     let lt : length below < width = omega arith in
-    omega (arith, advanced_weight below (omega arith) live.1 further some, floor_cons b below lt)
-
-falls : (d d' : Bool) (x y : ℕ) → d ≡ false → 0 < y → (d' ≡ false → x < y) → cond d' 0 x < cond d 0 y
-falls false false x y e pos less = less refl
-falls false true x y e pos less = pos
-falls true d' x y e pos less = let z : ◌≡◌ {A = ℕ} 0 1 = cc in omega arith
+    omega (arith, advanced_weight below (omega arith) (each_pop (λ c st. 0 < bits c.left) b below live) further some, floor_cons b below lt)
 
 abbrev pub measure : Walk → ℕ
-measure w = cond w.done 0 (weight (stack w))
+measure w = option_map_or (λ p. weight (stack p)) w.path 0
 
-pub advance_falls : (w w' : Walk) → Advanced (stack w) (stack w') → w'.done ≡ eqb w'.depth 0 → w.done ≡ false → measure w' < measure w
-advance_falls w w' e done on =
-    let long : length (stack w) ≤ width = rw (length-stack w.branches blank w.depth) w.shallow in
-    let above = floor_weight (stack w) in
-    falls w.done w'.done (weight (stack w')) (weight (stack w)) on (omega (arith, above))
-    (λ off.
-    let some : length (stack w') ≡ 0 → ⊥ = λ z. eqb-false w'.depth 0 (sym done ∙ off) (sym (length-stack w'.branches blank w'.depth) ∙ z) in
-    omega (arith, above, advanced_weight (stack w) long (alive w) e some))
+module _ (p p' : Path) where
+  pub advance_falls : Advanced (stack p) (stack p') → not (eqb (length (stack p')) 0) ≡ true → weight (stack p') < weight (stack p)
+  advance_falls e more =
+      let some : length (stack p') ≡ 0 → ⊥ = λ z. both_ways true (sym more ∙ ap (λ n. not (eqb n 0)) z) refl in
+      omega (arith, floor_weight (stack p), advanced_weight (stack p) (short (stack p) p.live p.sized p.apart) p.live e some)
 
-pub push_falls : (w w' : Walk) (b : Branch) → stack w' ≡ b ∷ stack w → w.done ≡ false → w.depth < width → measure w' < measure w
-push_falls w w' b e on room =
-    let long : length (stack w) < width = rw (length-stack w.branches blank w.depth) room in
-    let above = floor_weight (stack w) in
-    falls w.done w'.done (weight (stack w')) (weight (stack w)) on (omega (arith, above)) (λ off. rw e (weight_push b (stack w) long))
+  pub push_falls : (b : Branch) → stack p' ≡ b ∷ stack p → length (stack p) < width → weight (stack p') < weight (stack p)
+  push_falls b e room = rw e (weight_push b (stack p) room)
+
+pub weight_pos : (p : Path) → 0 < weight (stack p)
+weight_pos p = let above = floor_weight (stack p) in omega arith
+
+-- a walk that goes on at the end of a path weighs what the path does
+pub measure_at : (w : Walk) (p : Path) (m : ℕ) → w.path ≡ Some p → m < weight (stack p) → m < measure w
+measure_at w p m e less = subst (λ (o : Option Path). m < option_map_or (λ q. weight (stack q)) o 0) (sym e) less

@@ -1,21 +1,19 @@
 // Branch records, the nodes below them, and what is found at a node.
 use atoms::AtomSet;
 
-// What a node has taken and denied, and the head atoms that are still to be taken there. Its present branch takes the least
-// of these and denies the others.
-#[derive(Clone, Copy)]
-pub struct Branch {
-    pub taken: AtomSet,
-    pub denied: AtomSet,
-    pub left: AtomSet,
-}
-
-// The atoms taken and those denied. It clashes where the atom that was taken last was denied before.
+// The atoms taken and those denied.
 #[derive(Clone, Copy)]
 pub struct Node {
     pub taken: AtomSet,
     pub denied: AtomSet,
-    pub clash: bool,
+}
+
+// A node, and the head atoms that are still to be taken there. Its present branch takes the least of these and denies the
+// others.
+#[derive(Clone, Copy)]
+pub struct Branch {
+    pub node: Node,
+    pub left: AtomSet,
 }
 
 // What is found at a node: nothing, a model, or a clause to branch on.
@@ -24,4 +22,31 @@ pub enum Visit {
     Dead,
     Model(AtomSet),
     Split(Branch),
+}
+
+// The root: no atom is taken, and none denied.
+// By hand: a derive would want a default of every type in it, where only a blank place is wanted.
+impl Default for Node {
+    ghost use Rattle.std.specs.Prelude.{◌≡◌};
+    ghost use Rattle.atoms.specs.Atoms.{bits};
+
+    ghost is_default = { λ n. (bits n.taken ≡ 0) × (bits n.denied ≡ 0) };
+
+    fn default() -> Node {
+        Node {
+            taken: AtomSet::empty(),
+            denied: AtomSet::empty(),
+        }
+    }
+}
+
+// What fills a place where no record is: the root, with no atom left.
+// By hand: a derive would want a default of every type in it, where only a blank place is wanted.
+impl Default for Branch {
+    fn default() -> Branch {
+        Branch {
+            node: Node::default(),
+            left: AtomSet::empty(),
+        }
+    }
 }

@@ -5,7 +5,8 @@ ghost use Rattle.clauses.specs.declared.clauses.Clause.{Clause};
 ghost use Rattle.walks.specs.Walks.{Fresh, Reached, Sound};
 
 use crate::Walk;
-use crate::branches::{Branch, Visit};
+use crate::branches::Visit;
+use crate::paths::Path;
 use atoms::AtomSet;
 use clauses::Source;
 use shelves::Shelf;
@@ -15,15 +16,8 @@ impl Walk {
     pub fn new() -> Walk
         ensures { (cs : List Clause) → Sound cs result [] }
     {
-        let none = AtomSet::empty();
         Walk {
-            branches: [Branch {
-                taken: none,
-                denied: none,
-                left: none,
-            }; 64],
-            depth: 0,
-            done: false,
+            path: Some(Path::new()),
         }
     }
 
@@ -36,11 +30,15 @@ impl Walk {
             → Reached (S.Source.clauses source.now) (map bits (H.Shelf.sets shelf.now))
             self.new result }
     {
-        while !self.done {
-            match self.node().visit(source, shelf) {
+        while let Some(path) = &mut self.path {
+            match path.visit(source, shelf) {
                 Visit::Model(set) => return Some(set),
-                Visit::Split(branch) => self.push(branch),
-                Visit::Dead => self.advance(),
+                Visit::Split(branch) => path.push(branch),
+                Visit::Dead => {
+                    if !path.advance() {
+                        self.path = None;
+                    }
+                }
             }
         }
         None

@@ -4,9 +4,6 @@ use Rattle.std.specs.List.{flat_map}
 use Rattle.atoms.specs.Atoms.{bits}
 use Rattle.atoms.specs.Sets.{hasb}
 use Rattle.clauses.specs.declared.clauses.Clause.{Clause}
-use Rattle.clauses.specs.declared.origins.Kind.{Kind}
-use Rattle.clauses.specs.declared.origins.Kind.TheVariants.{Sheet, Table, Observation, Cap}
-use Rattle.clauses.specs.declared.origins.Origin.{Origin}
 use Rattle.formats.specs.Outcomes.{Outcome, Says}
 use Rattle.formats.specs.Outcomes.Outcome.{accepted, refused}
 use Rattle.sheets.specs.Meaning.{row_clauses}
@@ -35,16 +32,6 @@ clause_words names c =
 -- a clause on a line of its own, after the number of its line in the sheet
 abbrev pub clause_text : List (List ℕ) → Clause → List ℕ
 clause_text names c = codes "line " ++ (decimal c.origin.number ++ (codes ": " ++ (clause_words names c ++ 10 ∷ [])))
-
--- where a clause comes from, by the kind and the number of its origin: the first observation has 0 before it, and is the first
-abbrev pub origin_text : Kind → ℕ → List ℕ
-origin_text Sheet n = codes "line " ++ decimal n
-origin_text Table n = codes "record " ++ decimal n
-origin_text Observation n = codes "observation " ++ decimal (n + 1)
-origin_text Cap n = codes "cap " ++ decimal n
-
-abbrev pub origin_words : Origin → List ℕ
-origin_words o = origin_text o.kind o.number
 
 -- how many names and clauses there are, and then the clauses
 abbrev pub sheet_text : List (List ℕ) → List Clause → List ℕ

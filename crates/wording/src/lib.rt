@@ -1,7 +1,9 @@
 #![tactic(auto)]
 // Clauses, and what reading a sheet comes to, in words.
-mod phrases;
+mod pages;
 mod reports;
+#[cfg(test)]
+mod tests;
 
-pub use phrases::{origin_words, write_clause, write_names};
-pub use reports::{refusal_line, sheet_report};
+pub use pages::Page;
+pub use reports::{refusal_line, refusal_words, sheet_report};

@@ -81,9 +81,9 @@ fn the_longest_sheet(rt: HostRuntime) -> Result<(), Fail> {
 
 #[test]
 fn numbers_of_the_refusals(rt: HostRuntime) {
-    assert_eq!(rt; WriteRefusal::Long.number(), 1);
-    assert_eq!(rt; WriteRefusal::Names.number(), 2);
-    assert_eq!(rt; WriteRefusal::Twice.number(), 3);
-    assert_eq!(rt; WriteRefusal::Room.number(), 13);
-    assert_eq!(rt; WriteRefusal::Atoms.number(), 14);
+    assert_eq!(rt; u8::from(WriteRefusal::Long), 1);
+    assert_eq!(rt; u8::from(WriteRefusal::Names), 2);
+    assert_eq!(rt; u8::from(WriteRefusal::Twice), 3);
+    assert_eq!(rt; u8::from(WriteRefusal::Room), 13);
+    assert_eq!(rt; u8::from(WriteRefusal::Atoms), 14);
 }

@@ -2,16 +2,12 @@
 use Rattle.std.proofs.Common.{◌≡◌, ℕ, List, [], length, drop, sym, ap, subst, arith}
 use Rattle.std.proofs.lemmas.List.{drop_all, length-drop}
 use Rattle.formats.specs.Format.{Apart, Begins}
-use Rattle.formats.specs.Outcomes.{NoNames}
 use Rattle.formats.specs.Places.{FirstLine, words}
 use Rattle.formats.specs.declared.names.NamesLine.{NamesLine}
 use Rattle.formats.proofs.Splits.{begins_words, one_line}
 use Rattle.writers.specs.Refusals.{Heading, IsLine, NamesRefused}
 use Rattle.writers.specs.declared.refusals.WriteRefusal.TheVariants.{Names, Twice}
 use Rattle.writers.proofs.Turns.{due_names, due_twice}
-
-pub none_begins : (text : List ℕ) → NoNames text → NamesRefused text Names
-none_begins text h doc room = due_names text doc room (λ names l. h names [] l)
 
 module _ (text : List ℕ) (l : NamesLine) (w : FirstLine text l) where
   pub more_after : (l.size ≡ length text → ⊥) → NamesRefused text Names

@@ -1,7 +1,8 @@
-pub mod Found
 pub mod Turns
 pub mod Heads
-pub mod Lines
+pub mod Pairs
+pub mod Enumerated
+pub mod Found
 pub mod Fills
 pub mod Written
 pub mod Once

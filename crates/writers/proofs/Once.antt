@@ -1,5 +1,5 @@
 -- The writing calls have one reply.
-use Rattle.std.proofs.Common.{◌≡◌, ℕ, ◌<◌, List, ◌++◌, length, drop, Ok, Err, sym, ap, ◌∙◌, ⊎_elim}
+use Rattle.std.proofs.Common.{◌≡◌, ℕ, ◌<◌, List, length, Ok, Err, sym, ap, ◌∙◌, ⊎_elim}
 use Rattle.std.proofs.lemmas.Bool.{cases_order}
 use Rattle.writers.specs.Documents.{Document, text_of}
 use Rattle.writers.specs.Refusals.{Due, turn}
@@ -17,8 +17,7 @@ due_once text doc room f g a b =
 pub one_reply : OneReply
 one_reply text doc before (Ok k) (Ok m) after after' a b =
     let t : text_of a.names doc ≡ text_of b.names doc = ap (λ n. text_of n doc) (names_once text a.names b.names a.is_line b.is_line) in
-    let e : k ≡ m = a.size_is ∙ (ap length t ∙ sym b.size_is) in
-    (ap Ok e, a.is ∙ (ap (λ x. x ++ drop k before) t ∙ (ap (λ n. text_of b.names doc ++ drop n before) e ∙ sym b.is)))
+    let e : k ≡ m = cc in (cc, cc)
 one_reply text doc before (Ok k) (Err g) after after' a b = absurd (a.right g b.0.wrong)
 one_reply text doc before (Err f) (Ok m) after after' a b = absurd (b.right f a.0.wrong)
 one_reply text doc before (Err f) (Err g) after after' a b = (ap Err (due_once text doc (length before) f g a.0 b.0), a.1 ∙ sym b.1)

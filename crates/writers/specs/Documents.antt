@@ -58,6 +58,10 @@ abbrev pub TooLong : Document → ℕ → Type 0
 TooLong (sheet clauses) size = longest < size
 TooLong (report sets complete) size = ⊥
 
--- a first line, and under it a line for each element, with its values for n names
+-- a line for each element, with its values for n names
+abbrev pub row_lines : {X : Type 0} → (X → ℕ → ℕ) → ℕ → List X → List ℕ
+row_lines f n xs = flat_map clause_line (map (λ x. row_by (f x) n) xs)
+
+-- a first line, and these lines under it
 abbrev pub lines_under : {X : Type 0} → (X → ℕ → ℕ) → List ℕ → ℕ → List X → List ℕ
-lines_under f first n xs = first ++ flat_map clause_line (map (λ x. row_by (f x) n) xs)
+lines_under f first n xs = first ++ row_lines f n xs

@@ -1,3 +1,4 @@
 pub mod Documents
 pub mod Refusals
 pub mod Replies
+pub mod Rows

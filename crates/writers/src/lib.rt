@@ -2,7 +2,8 @@
 // Writing sheets and reports into a given buffer.
 ghost use Rattle.writers.specs.Replies.{OneReply};
 
-mod checks;
+mod headings;
+mod lines;
 mod refusals;
 mod reports;
 mod rows;

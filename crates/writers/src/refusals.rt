@@ -2,6 +2,7 @@
 ghost use Rattle.std.specs.Prelude.{◌≡◌};
 ghost use Rattle.writers.specs.Refusals.{number_of};
 
+// A reason not to write a text.
 #[derive(Clone, Copy, PartialEq, Eq, Debug)]
 pub enum WriteRefusal {
     // The names line is not as described.
@@ -16,12 +17,12 @@ pub enum WriteRefusal {
     Room,
 }
 
-impl WriteRefusal {
-    // The number of the refusal.
-    pub fn number(self) -> u8
-        ensures { result ≡ number_of self }
-    {
-        match self {
+// The number of a refusal.
+impl From<WriteRefusal> for u8 {
+    ghost from_gives = { λ refusal number. number ≡ number_of refusal };
+
+    fn from(refusal: WriteRefusal) -> u8 {
+        match refusal {
             WriteRefusal::Names => 2,
             WriteRefusal::Twice => 3,
             WriteRefusal::Atoms => 14,

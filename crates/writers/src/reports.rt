@@ -1,17 +1,16 @@
 // Writing a report.
-ghost use Rattle.std.specs.Prelude.{◌≡◌, ◌+◌, ◌*◌, ◌≤◌, ◌++◌, length, drop, MatchBool};
-ghost use Rattle.atoms.specs.Atoms.{width};
+ghost use Rattle.std.specs.Prelude.{◌≡◌};
 ghost use Rattle.writers.specs.Documents.Document.{report};
-ghost use Rattle.writers.specs.Documents.{Among, Unnamed, last_line, lines_under, mark_of};
+ghost use Rattle.writers.specs.Documents.{last_line};
 ghost use Rattle.writers.specs.Replies.{Reply};
 
 use crate::WriteRefusal;
-use crate::checks::{count_names, has_unnamed};
-use crate::rows::put_row;
+use crate::headings::Heading;
 use shelves::Shelf;
 
 // Writes a report to the front of the buffer, from a names line, the sets of a shelf and whether these are all, and
 // replies with its length. The later bytes stay as they are, and a refusal changes no byte.
+// `complete` is no part of the shelf: a full shelf may hold all.
 pub fn write_report<H: Shelf>(
     names: &[u8],
     shelf: &H,
@@ -20,31 +19,19 @@ pub fn write_report<H: Shelf>(
 ) -> Result<usize, WriteRefusal>
     ensures { Reply names.now (report (H.Shelf.sets shelf.now) complete) out.old result out.new }
 {
-    let n = count_names(names)?;
-    if any_unnamed(shelf, n) {
+    let heading = Heading::read(names)?;
+    if heading.any_unfit(shelf.iter()) {
         return Err(WriteRefusal::Atoms);
     }
     let last = last_line(complete);
-    let size = names.len() + shelf.len() * (2 * n) + last.len();
+    let lines = names.len() + shelf.len() * heading.width();
+    let size = lines + last.len();
     if out.len() < size {
         return Err(WriteRefusal::Room);
     }
-    put_report(names, n, shelf, last, out);
+    heading.put(shelf.iter(), out);
+    out[lines..lines + last.len()].copy_from_slice(last);
     Ok(size)
-}
-
-// Has an atom of a set on the shelf none of `n` names?
-fn any_unnamed<H: Shelf>(shelf: &H, n: usize) -> bool
-    ensures { MatchBool result
-        (Among (Unnamed n) (H.Shelf.sets shelf.now))
-        (Among (Unnamed n) (H.Shelf.sets shelf.now) → ⊥) }
-{
-    for i in 0..shelf.len() {
-        if has_unnamed(shelf.get(i).unwrap(), n) {
-            return true;
-        }
-    }
-    false
 }
 
 // The last line of a report.
@@ -52,24 +39,4 @@ fn last_line(complete: bool) -> &'static [u8]
     ensures { result.now ≡ last_line complete }
 {
     if complete { b"end\n" } else { b"more\n" }
-}
-
-// Fills the front of `out` with the names line, the lines of the sets and the last line.
-fn put_report<H: Shelf>(names: &[u8], n: usize, shelf: &H, last: &[u8], out: &mut [u8])
-    requires room { length names.now + length (H.Shelf.sets shelf.now) * (2 * n) + length last.now ≤ length out.old }
-    requires some { 1 ≤ n }
-    requires few { n ≤ width }
-    ensures { out.new
-        ≡ (lines_under mark_of names.now n (H.Shelf.sets shelf.now) ++ last.now)
-        ++ drop (length names.now + length (H.Shelf.sets shelf.now) * (2 * n) + length last.now) out.old }
-{
-    out[..names.len()].copy_from_slice(names);
-    let mut at = names.len();
-    for i in 0..shelf.len() {
-        let end = at + 2 * n;
-        put_row(&shelf.get(i).unwrap(), n, &mut out[at..end]);
-        at = end;
-    }
-    let size = at + last.len();
-    out[at..size].copy_from_slice(last);
 }

@@ -1,22 +1,30 @@
-// Lines with a byte for each name.
-ghost use Rattle.std.specs.Prelude.{◌≡◌, ℕ, ◌*◌, ◌≤◌, length};
-ghost use Rattle.atoms.specs.Atoms.{index, width};
-ghost use Rattle.formats.specs.Format.{clause_line};
-ghost use Rattle.writers.specs.Documents.{mark_of, row_by, value_of};
+// What is written as one line.
+ghost use Rattle.std.specs.Prelude.{◌≡◌, ℕ, MatchBool};
+ghost use Rattle.atoms.specs.Atoms.{index};
+ghost use Rattle.writers.specs.Documents.{Misfit, Unnamed, mark_of, value_of};
 
 use atoms::{Atom, AtomSet};
 use clauses::Clause;
 
-// What is written as one line: it has a byte for each atom.
-pub(crate) trait Row {
+// A row is a line with a byte for each name. It fits only where each atom that it uses has a name.
+pub(crate) trait Row: Drop {
     ghost byte: { Self → ℕ → ℕ };
 
+    ghost unfit: { ℕ → Self → Type 0 };
+
+    // The byte of an atom.
     fn value(&self, atom: Atom) -> u8
         ensures { result ≡ byte self.now (index atom) };
+
+    // Can the row not be written for `n` names?
+    fn is_unfit(&self, n: usize) -> bool
+        ensures { MatchBool result (unfit n self.now) (unfit n self.now → ⊥) };
 }
 
 impl Row for Clause {
     ghost byte = { value_of };
+
+    ghost unfit = { Misfit };
 
     fn value(&self, atom: Atom) -> u8 {
         if self.body.contains(atom) {
@@ -27,25 +35,23 @@ impl Row for Clause {
             b'.'
         }
     }
+
+    fn is_unfit(&self, n: usize) -> bool {
+        self.body.union(self.head).is_unfit(n) || self.body.intersects(self.head)
+    }
 }
 
 impl Row for AtomSet {
     ghost byte = { mark_of };
 
+    ghost unfit = { Unnamed };
+
     fn value(&self, atom: Atom) -> u8 {
         if self.contains(atom) { b'1' } else { b'0' }
     }
-}
 
-// Fills `out` with the line of a row for `n` names.
-pub(crate) fn put_row<R: Row>(row: &R, n: usize, out: &mut [u8])
-    requires size { length out.old ≡ 2 * n }
-    requires some { 1 ≤ n }
-    requires few { n ≤ width }
-    ensures { out.new ≡ clause_line (row_by (R.Row.byte row.now) n) }
-{
-    for k in 0..n {
-        out[2 * k] = row.value(Atom::new(k as u8).unwrap());
-        out[2 * k + 1] = if k + 1 == n { b'\n' } else { b' ' };
+    fn is_unfit(&self, n: usize) -> bool {
+        self.greatest()
+            .is_some_and(|atom| atom.number() as usize >= n)
     }
 }

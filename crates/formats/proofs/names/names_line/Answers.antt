@@ -1,35 +1,25 @@
-use Rattle.std.proofs.Common.{◌≡◌, ◌+◌, ◌-◌, subst, arith}
+use Rattle.std.proofs.Common.{arith}
 use Rattle.std.proofs.lemmas.Bool.Decides.{not_from_Decides}
-use Rattle.formats.proofs.Splits.{Naming, naming_start, naming_more, naming_wrong, naming_open, naming_end, naming_many}
+use Rattle.std.proofs.lemmas.Iterator.Consumers.{YieldsList-from_first, count_from_yields_List}
+use Rattle.formats.specs.Places.{words, words_left}
+use Rattle.formats.proofs.Splits.{no_line, too_many, no_names, names_read}
 use Rattle.formats.proofs.names.names_line.Goals as goal
-use Rattle.formats.proofs.names.names_line.Goals.{then-e-text-via-then-e-text, then-e-text-via-else-e-text+then-not-is_name}
+use Rattle.formats.proofs.names.names_line.Goals.{then-count-gt-MOST_NAMES-via-then-count-gt-MOST_NAMES, then-count-gt-MOST_NAMES-via-else-count-gt-MOST_NAMES+then-not-has_names}
 
-pub loop-count-init : goal.loop-count-init
-loop-count-init c = naming_start c.args.text.now
+pub returns-in_err-end : goal.returns-in_err-end
+returns-in_err-end c = rw c.from_residual.ensures (no_line c.args.text.now c.in_err-end.ensures)
 
-pub returns-then-e-text : goal.returns-then-e-text
-returns-then-e-text c =
+pub returns-then-count-gt-MOST_NAMES : goal.returns-then-count-gt-MOST_NAMES
+returns-then-count-gt-MOST_NAMES c =
     let t = c.args.text.now in
-    elim c.then-e-text.branch [
-      | then-e-text-via-then-e-text w ↦ naming_open t c.loop-count.p (c.loop-count.count - 1) c.word_end-e.result c.loop-count.invariant c.word_end-e.ensures w.if-e-text.true
-      | then-e-text-via-else-e-text+then-not-is_name w ↦
-          naming_wrong t c.loop-count.p (c.loop-count.count - 1) c.word_end-e.result c.loop-count.invariant c.word_end-e.ensures
-          (not_from_Decides _ w.is_name.ensures w.if-not-is_name.true)
+    let n = count_from_yields_List c.line_words.result _ c.count-count.ensures.ran (YieldsList-from_first (λ x. x.now) words_left (words t) c.line_words.ensures.left) in
+    elim c.then-count-gt-MOST_NAMES.branch [
+      | then-count-gt-MOST_NAMES-via-then-count-gt-MOST_NAMES w ↦ too_many t (omega (arith, n, w.if-count-gt-MOST_NAMES.true))
+      | then-count-gt-MOST_NAMES-via-else-count-gt-MOST_NAMES+then-not-has_names w ↦ no_names t (not_from_Decides _ w.has_names.ensures w.if-not-has_names.true)
     ]
-
-pub returns-then-text-e-eq10 : goal.returns-then-text-e-eq10
-returns-then-text-e-eq10 c =
-    naming_end c.args.text.now c.loop-count.p (c.loop-count.count - 1) c.word_end-e.result c.loop-count.invariant c.word_end-e.ensures
-    c.loop-count.count (omega arith) (omega arith) c.if-e-text.false c.if-text-e-eq10.true (c.is_name.ensures.0 c.if-not-is_name.false)
-
-pub loop-count-preserved : goal.loop-count-preserved
-loop-count-preserved c =
-    let z : c.loop-count.count - 1 + 1 ≡ c.loop-count.count + 1 - 1 = omega arith in
-    subst (Naming c.args.text.now (c.word_end-e.result + 1)) z
-    (naming_more c.args.text.now c.loop-count.p (c.loop-count.count - 1) c.word_end-e.result c.loop-count.invariant c.word_end-e.ensures
-    c.if-e-text.false c.if-text-e-eq10.false (c.is_name.ensures.0 c.if-not-is_name.false))
 
 pub returns : goal.returns
 returns c =
-    let z : c.loop-count.count - 1 ≡ 64 = omega arith in
-    naming_many c.args.text.now c.loop-count.p (subst (Naming c.args.text.now c.loop-count.p) z c.loop-count.invariant)
+    let t = c.args.text.now in
+    let n = count_from_yields_List c.line_words.result _ c.count-count.ensures.ran (YieldsList-from_first (λ x. x.now) words_left (words t) c.line_words.ensures.left) in
+    names_read t c.in_ok-end.end c.count-count.result c.in_ok-end.ensures n (omega arith) (c.has_names.ensures.0 c.if-not-has_names.false)

@@ -16,10 +16,7 @@ loop-made-preserved g c =
       q.ensures.below ∙ l.invariant.1,
     )
 
-pub returns : goal.returns
-returns g c =
+pub returns-clause-standing : goal.returns-clause-standing
+returns-clause-standing g c = λ cs places later law.
     let l = c.loop-made in
-    record {
-      standing = λ cs places later law. l.invariant.0 cs places later law ∙ ap standing_in (take_all l.made-index c.args.history.now c.loop-made-test.false);
-      below = l.invariant.1 ∙ c.new-case.ensures.below;
-    }
+    l.invariant.0 cs places later law ∙ ap standing_in (take_all l.made-index c.args.history.now c.loop-made-test.false)

@@ -1,5 +1,4 @@
-use Rattle.std.proofs.Common.{◌≡◌, ◌≤◌, [], length, refl, arith}
-use Rattle.std.proofs.lemmas.Option.{MatchOption-at_some}
+use Rattle.std.proofs.Common.{◌≡◌, refl, rules, arith}
 use Rattle.std.proofs.lemmas.Result.{err_from_is_err_and}
 use Rattle.formats.specs.Format.{line}
 use Rattle.sheets.specs.Sheets.{names, rows}
@@ -24,8 +23,7 @@ returns-then-out-text c =
 pub unwrap-requires : goal.unwrap-requires
 unwrap-requires c =
     let s = c.load.new.self in
-    let l : c.unwrap-names.result.now ≡ line (names s) =
-    (MatchOption-at_some (names s ≡ []) (λ p. (1 ≤ length (names s)) × (p.now ≡ line (names s))) c.unwrap-names.result c.unwrap-names.ensures c.names_line.ensures).1 in
+    let l : c.unwrap-names.result.now ≡ line (names s) = search rules in
     rewrite_ok c.args.text.now (names s) (rows s) c.in_ok-load.ensures c.args.clauses.now c.read_clauses.new.places _
     c.args.out.now c.write_sheet.new.out c.unwrap-names.result.now c.write_sheet.result c.write_sheet.ensures
     (omega (arith, c.clause_count-count.ensures.value)) (omega arith) (omega arith) c.read_clauses.ensures l
@@ -33,8 +31,7 @@ unwrap-requires c =
 pub returns : goal.returns
 returns c =
     let s = c.load.new.self in
-    let l : c.unwrap-names.result.now ≡ line (names s) =
-    (MatchOption-at_some (names s ≡ []) (λ p. (1 ≤ length (names s)) × (p.now ≡ line (names s))) c.unwrap-names.result c.unwrap-names.ensures c.names_line.ensures).1 in
+    let l : c.unwrap-names.result.now ≡ line (names s) = search rules in
     rewrites c.args.text.now (names s) (rows s) c.in_ok-load.ensures c.args.clauses.now c.read_clauses.new.places _
     c.args.out.now c.write_sheet.new.out c.unwrap-names.result.now c.write_sheet.result c.write_sheet.ensures
     (omega (arith, c.clause_count-count.ensures.value)) (omega arith) (omega arith) c.read_clauses.ensures l

@@ -1,6 +1,5 @@
-use Rattle.std.proofs.Common.{refl}
 use Rattle.walks.proofs.Soundness.{sound_begin}
 use Rattle.walks.proofs.Walk.new.Goals as goal
 
 pub returns : goal.returns
-returns c = λ cs. sound_begin cs _ refl refl
+returns c = λ cs. sound_begin cs _ c.new.ensures

@@ -1,70 +1,43 @@
-use Rattle.std.proofs.Common.{◌≡◌, ◌+◌, ◌<◌, ◌≤◌, length, get_or, set, sym, refl, ap, ◌∙◌, arith, rules}
-use Rattle.indexed.proofs.Kept.{chain_below, sets_length, sets_push}
-use Rattle.indexed.proofs.Links.{heads_more, links_more}
+use Rattle.std.proofs.Common.{length, get_or, set, refl, sym, ap, ◌∙◌, rules}
 use Rattle.indexed.proofs.shelf.IndexedShelfShelf.keep.Goals as goal
-use Rattle.indexed.proofs.Sharing.{falls_from, leads_from, runs_from, runs_more, shares_from}
+use Rattle.indexed.proofs.Kept.{slot_is}
+use Rattle.indexed.proofs.Same.{same_shelf}
+use Rattle.indexed.proofs.Sharing.{chained_more, chained_of}
 use Rattle.indexed.specs.Chains.{last}
 use Rattle.indexed.specs.declared.record.ShelfRecord.{ShelfRecord}
-use Rattle.std.proofs.lemmas.List.{length-set}
-
-pub returns-then-self-places : goal.returns-then-self-places
-returns-then-self-places c =
-    let s = c.args.self.now in
-    let within : s.len ≤ length s.memory.now = omega arith in
-    record {
-      answer = record { was_full = omega (arith, sets_length s.memory.now s.len within); unchanged = refl };
-      places = refl;
-      lender = refl;
-      memory = refl;
-    }
+use Rattle.lists.specs.Items.{cells, items}
+use Rattle.std.proofs.lemmas.List.{length-map}
 
 -- the head of the set's chain
 pub run_to-run-requires : goal.run_to-run-requires
 run_to-run-requires c =
     let s = c.args.self.now in
-    let k = c.chain_of-chain.result in
-    s.first k c.chain_of-chain.ensures.bound ∙ ap (λ j. last s.memory.now j s.len) c.chain_of-chain.ensures.value
+    let rs = items s.records in
+    let is = c.slot-chain.ensures.value ∙ slot_is c.args.set _ c.least.ensures in
+    s.first c.slot-chain.result c.slot-chain.ensures.bound ∙ ap (λ j. last rs j (length rs)) is
 
 pub invariant_of-self : goal.invariant_of-self
-invariant_of-self c =
-    let s = c.args.self.now in
-    let rs = s.memory.now in
-    let k = c.chain_of-chain.result in
-    let is = c.chain_of-chain.ensures.value in
-    let run = c.run_to-run.result in
-    let x : ShelfRecord = record { set = c.args.set; common = run.common; link = get_or s.heads k 0; skip = run.skip } in
-    let room : s.len < length rs = omega arith in
-    let wide : length s.heads ≡ 65 = search rules in
-    let low : k < length s.heads = omega (arith, c.chain_of-chain.ensures.bound) in
-    let leads = ap (λ j. get_or s.heads j 0) is in
-    let rs' = set rs s.len x in
-    let runs =
-    runs_more rs s.len x room (c.run_to-run.ensures.shared, c.run_to-run.ensures.own)
-    (runs_from rs s.len s.falls s.back s.shared) in
-    record {
-      fits = search (rules, length-set);
-      first = heads_more rs s.len x room s.heads k is low s.first;
-      further = links_more rs s.len x room s.heads (chain_below c.args.set) leads s.first s.further;
-      falls = falls_from rs' (s.len + 1) runs;
-      back = leads_from rs' (s.len + 1) runs;
-      shared = shares_from rs' (s.len + 1) runs;
-    }
+invariant_of-self c = rw c.in_err-push.ensures.answer.unchanged (chained_of c.args.self.now)
 
-pub returns : goal.returns
-returns c =
+pub invariant_of-self-2 : goal.invariant_of-self-2
+invariant_of-self-2 c =
+    let s = c.args.self.now in
+    let rs = items s.records in
+    let run = c.run_to-run.result in
+    let is = c.slot-chain.ensures.value ∙ slot_is c.args.set _ c.least.ensures in
+    let x : ShelfRecord = record { set = c.args.set; common = run.common; link = get_or s.heads c.slot-chain.result 0; skip = run.skip } in
+    chained_more s.heads rs (items c.push.new.self) c.slot-chain.result c.len.result x c.in_ok-push.ensures.answer.at_end c.len.ensures (search rules) is refl
+    (c.run_to-run.ensures.shared, c.run_to-run.ensures.own) (chained_of s)
+
+pub returns-clause-memory : goal.returns-clause-memory
+returns-clause-memory c =
     let s = c.args.self.now in
     let run = c.run_to-run.result in
-    let x : ShelfRecord =
-    record { set = c.args.set; common = run.common; link = get_or s.heads c.chain_of-chain.result 0; skip = run.skip } in
-    let within : s.len ≤ length s.memory.now = omega arith in
-    let room : s.len < length s.memory.now = omega arith in
-    let count = sets_length s.memory.now s.len within in
-    record {
-      answer = record {
-        had_place = omega arith;
-        at_end = sets_push s.memory.now s.len x room;
-      };
-      places = search (rules, length-set);
-      lender = search rules;
-      memory = (x, refl, ap (λ p. set s.memory.now p x) (sym count));
-    }
+    let x : ShelfRecord = record { set = c.args.set; common = run.common; link = get_or s.heads c.slot-chain.result 0; skip = run.skip } in
+    (x, refl, c.in_ok-push.ensures.answer.written ∙ ap (λ p. set (cells s.records) p x) (sym (length-map (items s.records) (λ r. r.set))))
+
+pub returns-in_err-push-clause-answer : goal.returns-in_err-push-clause-answer
+returns-in_err-push-clause-answer c =
+    let refused = c.in_err-push.ensures.answer in
+    let count = length-map (items c.args.self.now.records) (λ r. r.set) in
+    search (rules, same_shelf, count, refused)

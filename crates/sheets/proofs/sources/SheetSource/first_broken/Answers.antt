@@ -1,23 +1,19 @@
-use Rattle.std.proofs.Common.{true, false, sym, ◌∙◌}
+use Rattle.std.proofs.Common.{rules, tests, sym, ◌∙◌}
+use Rattle.std.proofs.lemmas.Iterator.Consumers.{YieldsList-from_first}
+use Rattle.std.proofs.lemmas.Iterator.Search.{find_from_yields_List}
+use Rattle.std.proofs.lemmas.Iterator.Adapters.{option_map_id}
 use Rattle.atoms.specs.Atoms.{bits}
-use Rattle.clauses.proofs.Decided.{decided}
-use Rattle.sheets.proofs.Turns.{turn_first, turn_here, turn_later, turn_end}
+use Rattle.clauses.specs.Clauses.{language}
+use Rattle.models.specs.Models.{breaks}
+use Rattle.sheets.specs.Lines.{clauses_left}
+use Rattle.sheets.specs.Sheets.{clauses}
+use Rattle.sheets.proofs.Turns.{first_found}
 use Rattle.sheets.proofs.sources.SheetSource.first_broken.Goals as goal
 
-pub loop-i-init : goal.loop-i-init
-loop-i-init c = turn_first c.args.self.now (bits c.args.set)
-
-pub returns-then-is_broken_by : goal.returns-then-is_broken_by
-returns-then-is_broken_by c =
-    sym (turn_here c.args.self.now (bits c.args.set) c.loop-i.i c.loop-i-test.true c.clause-clause.result c.clause-clause.ensures
-    (decided true (bits c.args.set) c.clause-clause.result c.if-is_broken_by.ensures))
-    ∙ c.loop-i.invariant
-
-pub loop-i-preserved : goal.loop-i-preserved
-loop-i-preserved c =
-    sym (turn_later c.args.self.now (bits c.args.set) c.loop-i.i c.loop-i-test.true c.clause-clause.result c.clause-clause.ensures
-    (decided false (bits c.args.set) c.clause-clause.result c.if-is_broken_by.ensures))
-    ∙ c.loop-i.invariant
-
 pub returns : goal.returns
-returns c = sym (turn_end c.args.self.now (bits c.args.set) c.loop-i.i c.loop-i-test.false) ∙ c.loop-i.invariant
+returns c =
+    let cs = clauses c.args.self.now in
+    let set = bits c.args.set in
+    sym (option_map_id c.find.result)
+    ∙ (find_from_yields_List (breaks language set) _ _ c.find.result c.find.ensures.ran (YieldsList-from_first (λ x. x) clauses_left cs c.clauses.ensures) (λ x b q k. search (rules, tests))
+    ∙ first_found language set cs)

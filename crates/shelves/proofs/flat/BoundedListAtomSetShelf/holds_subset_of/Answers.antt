@@ -1,20 +1,15 @@
--- The loop looks at each set until one is contained in `set`.
-use Rattle.std.proofs.Common.{rules}
-use Rattle.shelves.proofs.Held.{held_here, held_nowhere, none_held, not_held_more}
+use Rattle.std.proofs.Common.{rules, tests}
+use Rattle.atoms.specs.Atoms.{bits}
+use Rattle.atoms.specs.Sets.{◌⊆◌}
+use Rattle.lists.specs.Items.{items}
+use Rattle.shelves.proofs.Held.{Outside, held_from}
 use Rattle.shelves.proofs.flat.BoundedListAtomSetShelf.holds_subset_of.Goals as goal
-
-pub loop-held-init : goal.loop-held-init
-loop-held-init c = search (rules, none_held)
-
-pub returns-then-is_subset : goal.returns-then-is_subset
-returns-then-is_subset c =
-    let here = held_here c.args.set c.as_slice-held-items.ensures c.loop-held-test.true c.held-item.is in
-    search (rules, here, c.if-is_subset.ensures)
-
-pub loop-held-preserved : goal.loop-held-preserved
-loop-held-preserved c =
-    let more = not_held_more c.args.set c.as_slice-held-items.ensures c.loop-held-test.true c.held-item.is in
-    search (rules, more, c.loop-held.invariant, c.if-is_subset.ensures)
+use Rattle.std.proofs.lemmas.Iterator.{YieldsList-from_slice, cases_from_any}
 
 pub returns : goal.returns
-returns c = search (rules, held_nowhere)
+returns c =
+    let s = c.args.set in
+    let sets = items c.args.self.now in
+    let each = YieldsList-from_slice {s = c.iter.result} sets (search rules) in
+    held_from s sets _ (cases_from_any _ _ _ (λ t. bits t ⊆ bits s) (Outside s) c.any.ensures.ran each
+    (λ x q k. search (rules, tests)) (λ x q k. search (rules, tests)))

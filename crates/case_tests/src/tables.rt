@@ -1,0 +1,21 @@
+// Records of the tables of examples.
+ghost use Rattle.std.specs.Prelude.{◌≡◌};
+ghost use Rattle.atoms.specs.Atoms.{bits};
+
+use atoms::AtomSet;
+use clauses::{Clause, Kind, Origin};
+
+// Asks for one of the atoms of the word.
+pub fn one_of(word: u64) -> Clause
+    ensures body { bits result.body ≡ 0 }
+    ensures head { bits result.head ≡ word }
+{
+    Clause {
+        body: AtomSet::empty(),
+        head: AtomSet::from_word(word),
+        origin: Origin {
+            kind: Kind::Table,
+            number: 0,
+        },
+    }
+}
