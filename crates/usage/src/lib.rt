@@ -3,6 +3,8 @@
 pub mod advice;
 pub mod arguments;
 pub mod programs;
+#[cfg(test)]
+mod tests;
 
 pub use advice::{Advice, advise};
 pub use arguments::{asks_for_help, early_status};
