@@ -1,5 +1,5 @@
 -- The list of the atoms of a set: which these are, and how many.
-use Rattle.std.proofs.Common.{◌≡◌, ◌≢◌, ℕ, zero, suc, ◌+◌, ◌<◌, ◌≤◌, false, ◌&&◌, not, eqb, List, [], ◌∷◌, length, get_or, sym, ap, ◌∙◌, subst, ⊎_elim, inl, inr, arith}
+use Rattle.std.proofs.Common.{◌≡◌, ◌≢◌, ℕ, zero, suc, ◌+◌, ◌<◌, ◌≤◌, false, ◌&&◌, not, eqb, List, length, sym, ap, ◌∙◌, subst, ⊎_elim, inl, inr, arith}
 use Rattle.std.specs.Prelude.{filter, map}
 use Rattle.std.specs.List.{range_with_len}
 use Rattle.std.proofs.lemmas.Bool.{and_parts, cases_Bool}
@@ -66,10 +66,3 @@ member_has s a m = listed_has (bits s) width 0 (omega arith) a m
 pub length-members : (s : AtomSet) → length (members s) ≡ size (bits s)
 unfolding rising
 length-members s = length-listed width 0 (bits s) (λ a h. (omega arith, atom_below s a h))
-
--- an element has a place in its list
-pub place_of : {X : Type 0} (x : X) (xs : List X) → Memᴰ x xs → (k : ℕ) × (k < length xs) × ((d : X) → get_or xs k d ≡ x)
-place_of {X} x [] m = absurd (Memᴰ.not-nil m)
-place_of {X} x (y ∷ xs) m =
-    ⊎_elim (λ (e : x ≡ y). (0, omega arith, λ d. sym e))
-    (λ (k : Memᴰ x xs). let r = place_of x xs k in (suc r.0, omega (arith, r.1), r.2)) (Memᴰ.cases_cons m)

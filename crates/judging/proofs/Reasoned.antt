@@ -16,8 +16,8 @@ use Rattle.clauses.proofs.Decided.{laws}
 use Rattle.clauses.specs.Clauses.{language}
 use Rattle.clauses.specs.declared.clauses.Clause.{Clause}
 use Rattle.atoms.proofs.Rising.{has_member}
-use Rattle.shelves.proofs.Held.{member_at}
-use Rattle.judging.proofs.Members.{length-members, member_has, place_of}
+use Rattle.shelves.proofs.Held.{member_at, member_place}
+use Rattle.judging.proofs.Members.{length-members, member_has}
 use Rattle.judging.specs.Laws.{ReasonsLaw, Tight}
 use Rattle.judging.specs.Reasons.{Complete, EachHasReason, HasReason, SomeLacksReason, Tells}
 use Rattle.judging.specs.declared.records.Reason.{Reason}
@@ -73,8 +73,8 @@ pub each_told : (cs : List Clause) (m : AtomSet) (r : Bool)
     → MatchBool r (EachHasReason cs (bits m)) (SomeLacksReason cs (bits m))
 each_told cs m true all = λ a h.
     let x = has_member m a h in
-    let at = place_of x.0 (members m) x.1 in
-    subst (HasReason cs (bits m)) (ap index (at.2 x.0) ∙ x.2) (all at.0 x.0 (omega arith) at.1)
+    let at = member_place x.0 x.0 (members m) x.1 in
+    subst (HasReason cs (bits m)) (ap index at.2 ∙ x.2) (all at.0 x.0 (omega arith) at.1)
 each_told cs m false lacks =
     let a = get_or (members m) lacks.0 (atom_of 0) in
     (index a, member_has m a (member_at (members m) lacks.0 (atom_of 0) lacks.1), lacks.2 (atom_of 0))
