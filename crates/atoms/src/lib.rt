@@ -11,14 +11,14 @@ mod tests;
 pub use iterating::Atoms;
 
 // An atom: a number below `AtomSet::WIDTH`.
-#[derive(Clone, Copy, PartialEq, Eq, PartialOrd, Ord, Debug)]
+#[derive(Clone, Copy, Debug)]
 pub struct Atom {
     index: u8,
     ghost within: { index < 64 },
 }
 
 // A set of atoms, in one word: the atom `a` is in the set where the digit `a` of the word is set.
-#[derive(Clone, Copy, PartialEq, Eq, Debug)]
+#[derive(Clone, Copy, Debug)]
 pub struct AtomSet {
     word: u64,
     ghost fits: { word < 2 ^ 64 },

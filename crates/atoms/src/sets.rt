@@ -1,7 +1,11 @@
 // The operations on sets. `bits s` is the set that `s` holds, and `has (bits s) a` says that the atom `a` is in it.
-ghost use Rattle.std.specs.Prelude.{◌≡◌, ℕ, ◌^◌, ◌<◌, ◌≤◌, true, false, not, ◌&&◌, ◌||◌, Decides, MatchBool, MatchOption, ◌==◌};
+ghost use Rattle.std.specs.Prelude.{◌≡◌, ℕ, ◌^◌, ◌<◌, ◌≤◌, true, false, not, ◌&&◌, ◌||◌, Decides, MatchBool, MatchOption, ◌==◌, nat_eq};
+ghost use Rattle.std.specs.Ordering.{on};
 ghost use Rattle.atoms.specs.Sets.{hasb, has, ◌⊆◌, Empty, Disjoint, Least, Greatest, union, meet, minus, insert, remove, size, Dropped};
 ghost use Rattle.atoms.specs.Atoms.{bits, index, width};
+ghost use Rattle.std.specs.Cmp.Rules.{comparing};
+ghost use Rattle.std.proofs.Common.{rules, arith};
+ghost use Rattle.std.specs.Cmp as Keys;
 
 use crate::{Atom, AtomSet};
 
@@ -162,4 +166,19 @@ impl AtomSet {
     {
         self.word.count_ones()
     }
+}
+
+// Two sets are equal where they have the same atoms, by hand as `==` of `Atom`.
+impl PartialEq for AtomSet {
+    ghost eq = { on bits nat_eq };
+
+    ghost laws = { Keys.partial_equiv_from_equiv (first_of (Prim.search (comparing, rules), Prim.grind (arith, Self.row.coded.inj))) };
+
+    fn eq(&self, other: &AtomSet) -> bool {
+        self.word == other.word
+    }
+}
+
+impl Eq for AtomSet {
+    ghost laws = { first_of (Prim.search (comparing, rules), Prim.grind (arith, Self.row.coded.inj)) };
 }
