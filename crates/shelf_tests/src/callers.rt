@@ -1,5 +1,5 @@
 // What a caller can prove: over any shelf, and of the memory that it lends.
-ghost use Rattle.std.specs.Prelude.{◌≡◌, ◌<◌, ◌≤◌, min, true, false, [], ◌∷◌, ◌++◌, length, take, drop, set as written, count_by, is_ok, Ok, MatchResult};
+ghost use Rattle.std.specs.Prelude.{◌≡◌, ◌==◌, ◌-◌, ◌<◌, ◌≤◌, min, true, false, [], ◌∷◌, ◌++◌, length, take, drop, set as written, count_by, is_ok, Ok, MatchResult};
 ghost use Rattle.atoms.specs.Atoms.{bits, index};
 ghost use Rattle.atoms.specs.Sets.{hasb};
 ghost use Rattle.lists.specs.Limit.{limit};
@@ -42,6 +42,20 @@ pub fn count_with<S: Shelf>(shelf: &S, atom: Atom) -> usize
     ensures { result ≡ count_by (λ s. hasb (bits s) (index atom)) (S.Shelf.sets shelf.now) }
 {
     shelf.iter().filter(|set| set.contains(atom)).count()
+}
+
+// How many sets on a shelf are the given one: what `==` of sets says outside their crate.
+pub fn count_same<S: Shelf>(shelf: &S, set: AtomSet) -> usize
+    ensures { result ≡ count_by (λ s. bits s == bits set) (S.Shelf.sets shelf.now) }
+{
+    shelf.iter().filter(|held| *held == set).count()
+}
+
+// How many places are free on a shelf of any kind, of which the function has no type parameter.
+pub fn count_free(shelf: &dyn Shelf) -> usize
+    ensures { result ≡ room shelf.now - length (sets shelf.now) }
+{
+    shelf.places() - shelf.len()
 }
 
 // A lender knows its memory after calls over any shelf: it begins with the sets on the shelf.

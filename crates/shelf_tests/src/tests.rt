@@ -1,5 +1,5 @@
 // Runs of lists and shelves: without places, with one, full, emptied, and at the bound.
-use crate::callers::list_all;
+use crate::callers::{count_free, count_same, list_all};
 use crate::placeless::Placeless;
 use atoms::AtomSet;
 use lists::{BoundedList, MAX_PLACES};
@@ -76,6 +76,20 @@ fn full_and_filled_again(rt: HostRuntime) -> Result<(), Fail> {
     assert!(rt; !shelf.holds_subset_of(atoms(0b1111)));
     keeps_three(&rt, &mut shelf, atoms(0b0101))?;
     assert!(rt; shelf.holds_subset_of(atoms(0b0101)));
+    Ok(())
+}
+
+#[test]
+fn equal_and_free(rt: HostRuntime) -> Result<(), Fail> {
+    let mut memory = [AtomSet::empty(); 4];
+    let mut shelf = FlatShelf::new(&mut memory);
+    shelf.keep(atoms(0b011))?;
+    shelf.keep(atoms(0b101))?;
+    shelf.keep(atoms(0b011))?;
+    assert_eq!(rt; count_same(&shelf, atoms(0b011)), 2);
+    assert_eq!(rt; count_same(&shelf, atoms(0b111)), 0);
+    assert_eq!(rt; count_free(&shelf), 1);
+    assert_eq!(rt; count_free(&Placeless), 0);
     Ok(())
 }
 

@@ -47,8 +47,10 @@ pub trait Shelf {
     fn holds_subset_of(&self, set: AtomSet) -> bool
         ensures { MatchBool result (Holds (sets self.now) set) (Holds (sets self.now) set → ⊥) };
 
-    // All sets on the shelf, in order.
+    // All sets on the shelf, in order. Not through a `dyn Shelf`, which all other calls go through.
     fn iter(&self) -> Sets<'_, Self>
+    where
+        Self: Sized,
         ensures { sets_left sets result ≡ sets self.now }
     {
         Sets {
