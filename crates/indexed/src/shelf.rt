@@ -60,6 +60,10 @@ impl Shelf for IndexedShelf<'_> {
             (λ _. Written (records_of self.old) (length (sets_on self.old)) set (records_of self.new))
             (λ _. records_of self.new ≡ records_of self.old) }
     {
+        // A full shelf walks no run.
+        if self.len() >= self.places() {
+            return Err(Full);
+        }
         let chain = slot(set.least());
         let link = self.heads[chain];
         let run = self.run_to(set, link);

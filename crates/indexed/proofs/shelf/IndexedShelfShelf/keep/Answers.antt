@@ -26,7 +26,7 @@ invariant_of-self-2 c =
     let run = c.run_to-run.result in
     let is = c.slot-chain.ensures.value ∙ slot_is c.args.set _ c.least.ensures in
     let x : ShelfRecord = record { set = c.args.set; common = run.common; link = get_or s.heads c.slot-chain.result 0; skip = run.skip } in
-    chained_more s.heads rs (items c.push.new.self) c.slot-chain.result c.len.result x c.in_ok-push.ensures.answer.at_end c.len.ensures (search rules) is refl
+    chained_more s.heads rs (items c.push.new.self) c.slot-chain.result c.len-2.result x c.in_ok-push.ensures.answer.at_end c.len-2.ensures (search rules) is refl
     (c.run_to-run.ensures.shared, c.run_to-run.ensures.own) (chained_of s)
 
 pub returns-clause-memory : goal.returns-clause-memory
