@@ -1,5 +1,5 @@
 -- The words of the line that a text begins with.
-use Rattle.std.proofs.Common.{◌≡◌, ℕ, zero, suc, ◌+◌, ◌<◌, ◌≤◌, Bool, true, false, cond, eqb, List, [], ◌∷◌, ◌++◌, length, get_or, take, drop, sym, refl, ap, ◌∙◌, subst, inl, inr, ⊎_elim, arith}
+use Rattle.std.proofs.Common.{◌≡◌, ℕ, zero, suc, ◌+◌, ◌*◌, ◌<◌, ◌≤◌, Bool, true, false, cond, eqb, ◌⊎◌, List, [], ◌∷◌, ◌++◌, length, get_or, take, drop, sym, refl, ap, ◌∙◌, subst, inl, inr, ⊎_elim, arith}
 use Rattle.std.specs.List.{All, AllByRecursion}
 use Rattle.std.proofs.ByRecursion.{All-get_or, All-from_get_or}
 use Rattle.std.proofs.lemmas.List.{append-nil, append_assoc, length-append, drop_more, drop_all, drop_at, take_all, take-append-drop, get_or-append-add, length-take-le}
@@ -158,3 +158,107 @@ module _ (text : List ℕ) where
         size_is = ap length l ∙ length-take-le (e + 1) text (omega (arith, f.within));
         within = omega (arith, f.within);
       }
+
+-- ---- the names one after another
+
+-- the bytes of words, and one after each
+abbrev pub filled : List (List ℕ) → ℕ
+filled [] = 0
+filled (w ∷ ws) = length w + 1 + filled ws
+
+-- so many bytes has line 1 with its byte 10, or one more than the text where no byte 10 stands
+abbrev Ending : List ℕ → ℕ → Type 0
+Ending t n =
+    ((e : ℕ) × FirstOf (λ b. b ≡ 10) t e × (n ≡ e + 1)) ⊎ (NoneOf (λ b. b ≡ 10) t × (n ≡ length t + 1))
+
+ending_later : (b : ℕ) (t : List ℕ) (n : ℕ) → (b ≡ 10 → ⊥) → Ending t n → Ending (b ∷ t) (suc n)
+ending_later b t n h (inl (e, f, z)) =
+    inl (suc e, record { within = omega (arith, f.within); is = f.is; before = go }, omega arith)
+  where
+    go : (k : ℕ) → k < suc e → get_or (b ∷ t) k 0 ≡ 10 → ⊥
+    go zero l = h
+    go (suc k) l = f.before k (omega arith)
+ending_later b t n h (inr (f, z)) = inr (go, omega arith)
+  where
+    go : (k : ℕ) → k < length (b ∷ t) → get_or (b ∷ t) k 0 ≡ 10 → ⊥
+    go zero l = h
+    go (suc k) l = f k (omega arith)
+
+filled_ends : (cur t : List ℕ) → (n : ℕ) × Ending t n × (filled (words_from cur t) ≡ length cur + n)
+filled_ends cur [] = (1, inr ((λ k l z. omega arith), omega arith), omega arith)
+filled_ends cur (b ∷ t) =
+    ⊎_elim
+    (λ (h : b ≡ 10). (
+      1,
+      inl (0, record { within = omega arith; is = h; before = λ k l z. omega arith }, omega arith),
+      ap filled (word_last cur t b h) ∙ omega arith,
+    ))
+    (λ (h : b ≡ 10 → ⊥). ⊎_elim
+    (λ (k : b ≡ 32).
+    let m = filled_ends [] t in
+    (suc m.0, ending_later b t m.0 h m.1, ap filled (word_space cur t b k) ∙ omega (arith, m.2)))
+    (λ (k : b ≡ 32 → ⊥).
+    let m = filled_ends (cur ++ b ∷ []) t in
+    (suc m.0, ending_later b t m.0 h m.1, ap filled (word_more cur t b k h) ∙ omega (arith, m.2, length-append cur (b ∷ []))))
+    (cases_eq b 32))
+    (cases_eq b 10)
+
+-- the names that are read, with the words ws left
+pub record Naming (text : List ℕ) (count size : ℕ) (ws : List (List ℕ)) : Type 0 where
+  pub count_is : count + length ws ≡ length (words text)
+  pub size_is : size + filled ws ≡ filled (words text)
+  pub few : count ≤ most_names
+  pub short : size ≤ 17 * count
+  pub all : AllByRecursion Name ws → AllByRecursion Name (words text)
+  pub each : AllByRecursion Name (words text) → AllByRecursion Name ws
+
+module _ (text : List ℕ) where
+  pub naming_start : (ws : List (List ℕ)) → ws ≡ words text → Naming text 0 0 ws
+  naming_start ws e = record {
+    count_is = omega (arith, ap length e);
+    size_is = omega (arith, ap filled e);
+    few = omega arith;
+    short = omega arith;
+    all = subst (AllByRecursion Name) e;
+    each = subst (AllByRecursion Name) (sym e);
+  }
+
+  module _ (count size : ℕ) (w : List ℕ) (ws : List (List ℕ)) (r : Naming text count size (w ∷ ws)) where
+    pub naming_more : (count ≡ most_names → ⊥) → Name w → Naming text (count + 1) (size + (length w + 1)) ws
+    naming_more h n = record {
+      count_is = omega (arith, r.count_is);
+      size_is = omega (arith, r.size_is);
+      few = omega (arith, r.few);
+      short = omega (arith, r.short, n.few);
+      all = λ a. r.all (n, a);
+      each = λ a. (r.each a).1;
+    }
+
+    pub naming_many : count ≡ most_names → NoNames text
+    naming_many h = too_many text (omega (arith, r.count_is))
+
+    pub naming_wrong : (Name w → ⊥) → NoNames text
+    naming_wrong n = no_names text (λ a. n (r.each (All-from_get_or Name (words text) [] (λ k h. a k [] h))).0)
+
+  module _ (count size : ℕ) (r : Naming text count size []) where
+    each_name : All Name (words text)
+    each_name k d h = All-get_or Name (words text) k d h (r.all tt)
+
+    pub naming_end : size ≤ length text → FirstLine text (record { count = count; size = size })
+    naming_end h =
+        let m = filled_ends [] text in
+        ⊎_elim
+        (λ (y : (e : ℕ) × FirstOf (λ b. b ≡ 10) text e × (m.0 ≡ e + 1)).
+        let z : y.0 + 1 ≡ size = omega (arith, y.2, m.2, r.size_is) in
+        subst (λ n. FirstLine text (record { count = count; size = n })) z
+        (names_read text y.0 count y.1 (omega (arith, r.count_is)) r.few each_name))
+        (λ (y : NoneOf (λ b. b ≡ 10) text × (m.0 ≡ length text + 1)). absurd (omega (arith, y.1, m.2, r.size_is)))
+        m.1
+
+    pub naming_open : (size ≤ length text → ⊥) → NoNames text
+    naming_open h =
+        let m = filled_ends [] text in
+        ⊎_elim
+        (λ (y : (e : ℕ) × FirstOf (λ b. b ≡ 10) text e × (m.0 ≡ e + 1)). absurd (omega (arith, y.1.within, y.2, m.2, r.size_is)))
+        (λ (y : NoneOf (λ b. b ≡ 10) text × (m.0 ≡ length text + 1)). no_line text y.0)
+        m.1

@@ -1,9 +1,8 @@
 // Reading line 1, the names.
 ghost use Rattle.std.specs.Prelude.{◌≡◌, Decides, MatchOption};
-ghost use Rattle.std.specs.List.{All};
 ghost use Rattle.formats.specs.Format.{Name, NameByte};
 ghost use Rattle.formats.specs.Outcomes.{NoNames};
-ghost use Rattle.formats.specs.Places.{FirstLine, FirstOf, NoneOf, words};
+ghost use Rattle.formats.specs.Places.{FirstLine};
 
 use crate::words::line_words;
 use crate::{LONGEST_NAME, MOST_NAMES};
@@ -30,31 +29,19 @@ fn is_name(word: &[u8]) -> bool
     !word.is_empty() && word.len() <= LONGEST_NAME && word.iter().all(|b| name_byte(*b))
 }
 
-// Where line 1 has its byte 10.
-fn line_end(text: &[u8]) -> Option<usize>
-    ensures { MatchOption result (NoneOf (λ b. b ≡ 10) text.now) (FirstOf (λ b. b ≡ 10) text.now) }
-{
-    text.iter().position(|b| *b == b'\n')
-}
-
-// Is each word of line 1 a name?
-fn has_names(text: &[u8]) -> bool
-    ensures { Decides result (All Name (words text.now)) }
-{
-    line_words(text).all(|word| is_name(word))
-}
-
 // Reads line 1, where it is as described; a name may stand twice in it.
 pub fn names_line(text: &[u8]) -> Option<NamesLine>
     ensures { MatchOption result (NoNames text.now) (FirstLine text.now) }
 {
-    let end = line_end(text)?;
-    let count = line_words(text).count();
-    if count > MOST_NAMES || !has_names(text) {
-        return None;
+    let mut count = 0;
+    let mut size = 0;
+    for word in line_words(text) {
+        if count == MOST_NAMES || !is_name(word) {
+            return None;
+        }
+        count += 1;
+        size += word.len() + 1;
     }
-    Some(NamesLine {
-        count,
-        size: end + 1,
-    })
+    // Past the last word stands byte 10, unless the text ends there.
+    (size <= text.len()).then_some(NamesLine { count, size })
 }

@@ -1,25 +1,42 @@
-use Rattle.std.proofs.Common.{arith}
+use Rattle.std.proofs.Common.{ap, ◌∙◌, subst, arith, rules}
 use Rattle.std.proofs.lemmas.Bool.Decides.{not_from_Decides}
-use Rattle.std.proofs.lemmas.Iterator.Consumers.{YieldsList-from_first, count_from_yields_List}
-use Rattle.formats.specs.Places.{words, words_left}
-use Rattle.formats.proofs.Splits.{no_line, too_many, no_names, names_read}
+use Rattle.formats.specs.Places.{words_left}
+use Rattle.formats.proofs.Splits.{Naming, naming_start, naming_more, naming_many, naming_wrong, naming_open, naming_end}
 use Rattle.formats.proofs.names.names_line.Goals as goal
-use Rattle.formats.proofs.names.names_line.Goals.{then-count-gt-MOST_NAMES-via-then-count-gt-MOST_NAMES, then-count-gt-MOST_NAMES-via-else-count-gt-MOST_NAMES+then-not-has_names}
+use Rattle.formats.proofs.names.names_line.Goals.{then-count-eq-MOST_NAMES-via-then-count-eq-MOST_NAMES, then-count-eq-MOST_NAMES-via-else-count-eq-MOST_NAMES+then-not-is_name}
 
-pub returns-in_err-end : goal.returns-in_err-end
-returns-in_err-end c = rw c.from_residual.ensures (no_line c.args.text.now c.in_err-end.ensures)
+pub loop-word-init : goal.loop-word-init
+loop-word-init c =
+    naming_start c.args.text.now _ (ap words_left c.into_iter-word-iterator.ensures.into_iter_gives ∙ c.line_words-word-items.ensures.left)
 
-pub returns-then-count-gt-MOST_NAMES : goal.returns-then-count-gt-MOST_NAMES
-returns-then-count-gt-MOST_NAMES c =
+pub returns-then-count-eq-MOST_NAMES : goal.returns-then-count-eq-MOST_NAMES
+returns-then-count-eq-MOST_NAMES c =
     let t = c.args.text.now in
-    let n = count_from_yields_List c.line_words.result _ c.count-count.ensures.ran (YieldsList-from_first (λ x. x.now) words_left (words t) c.line_words.ensures.left) in
-    elim c.then-count-gt-MOST_NAMES.branch [
-      | then-count-gt-MOST_NAMES-via-then-count-gt-MOST_NAMES w ↦ too_many t (omega (arith, n, w.if-count-gt-MOST_NAMES.true))
-      | then-count-gt-MOST_NAMES-via-else-count-gt-MOST_NAMES+then-not-has_names w ↦ no_names t (not_from_Decides _ w.has_names.ensures w.if-not-has_names.true)
+    let l = c.loop-word in
+    let r = subst (Naming t l.count l.size) c.in-Some.ensures.steps l.invariant in
+    elim c.then-count-eq-MOST_NAMES.branch [
+      | then-count-eq-MOST_NAMES-via-then-count-eq-MOST_NAMES w ↦ naming_many t l.count l.size c.in-Some.word.now _ r w.if-count-eq-MOST_NAMES.true
+      | then-count-eq-MOST_NAMES-via-else-count-eq-MOST_NAMES+then-not-is_name w ↦
+          naming_wrong t l.count l.size c.in-Some.word.now _ r (not_from_Decides _ w.is_name.ensures w.if-not-is_name.true)
     ]
+
+pub overflow_add-count : goal.overflow_add-count
+overflow_add-count c = omega (arith, c.loop-word.invariant.few)
+
+pub overflow_add-size-in-loop-word : goal.overflow_add-size-in-loop-word
+overflow_add-size-in-loop-word c =
+    omega (arith, c.loop-word.invariant.short, c.loop-word.invariant.few, (c.is_name.ensures.0 c.if-not-is_name.false).few)
+
+pub loop-word-preserved : goal.loop-word-preserved
+loop-word-preserved c =
+    let t = c.args.text.now in
+    let l = c.loop-word in
+    let r = subst (Naming t l.count l.size) c.in-Some.ensures.steps l.invariant in
+    naming_more t l.count l.size c.in-Some.word.now _ r c.if-count-eq-MOST_NAMES.false (c.is_name.ensures.0 c.if-not-is_name.false)
 
 pub returns : goal.returns
 returns c =
     let t = c.args.text.now in
-    let n = count_from_yields_List c.line_words.result _ c.count-count.ensures.ran (YieldsList-from_first (λ x. x.now) words_left (words t) c.line_words.ensures.left) in
-    names_read t c.in_ok-end.end c.count-count.result c.in_ok-end.ensures n (omega arith) (c.has_names.ensures.0 c.if-not-has_names.false)
+    let l = c.loop-word in
+    let r = subst (Naming t l.count l.size) c.in-None.ensures.steps.0 l.invariant in
+    rw c.then_some.ensures (search (rules, naming_end t l.count l.size r, naming_open t l.count l.size r))
