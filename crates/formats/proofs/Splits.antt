@@ -1,12 +1,12 @@
 -- The words of the line that a text begins with.
-use Rattle.std.proofs.Common.{◌≡◌, ℕ, zero, suc, ◌+◌, ◌*◌, ◌<◌, ◌≤◌, Bool, true, false, cond, eqb, ◌⊎◌, List, [], ◌∷◌, ◌++◌, length, get_or, take, drop, sym, refl, ap, ◌∙◌, subst, inl, inr, ⊎_elim, arith}
-use Rattle.std.specs.List.{All, AllByRecursion}
+use Rattle.std.proofs.Common.{◌≡◌, ℕ, zero, suc, ◌+◌, ◌*◌, ◌<◌, ◌≤◌, Bool, true, false, cond, eqb, ◌⊎◌, List, [], ◌∷◌, ◌++◌, length, get_or, take, drop, MatchBool, ◌≢◌, sym, refl, ap, ◌∙◌, subst, inl, inr, ⊎_elim, arith}
+use Rattle.std.specs.List.{All, AllByRecursion, AllWithin, HoldsAt}
 use Rattle.std.proofs.ByRecursion.{All-get_or, All-from_get_or}
 use Rattle.std.proofs.lemmas.List.{append-nil, append_assoc, length-append, drop_more, drop_all, drop_at, take_all, take-append-drop, get_or-append-add, length-take-le}
 use Rattle.std.proofs.lemmas.Bool.{cond-true, cond-false, eq-eqb, ne_eqb, cases_eq}
-use Rattle.formats.specs.Format.{most_names, NameByte, Name, line, Begins}
+use Rattle.formats.specs.Format.{most_names, NameByte, Name, Apart, line, Begins}
 use Rattle.formats.specs.Outcomes.{NoNames}
-use Rattle.formats.specs.Places.{FirstLine, words_from, words, Ends, FirstOf, NoneOf}
+use Rattle.formats.specs.Places.{FirstLine, words_from, words, Ends, FirstOf, Lacks, NoneOf}
 
 -- ---- a byte more
 
@@ -262,3 +262,29 @@ module _ (text : List ℕ) where
         (λ (y : (e : ℕ) × FirstOf (λ b. b ≡ 10) text e × (m.0 ≡ e + 1)). absurd (omega (arith, y.1.within, y.2, m.2, r.size_is)))
         (λ (y : NoneOf (λ b. b ≡ 10) text × (m.0 ≡ length text + 1)). no_line text y.0)
         m.1
+
+-- ---- a word that stands twice
+
+-- what looking for a word among others tells
+pub lacks_from : (ws : List (List ℕ)) (w : List ℕ) (r : Bool)
+    → MatchBool r ((k : ℕ) × (k < length ws) × HoldsAt (λ x. x ≡ w) ws k) (AllWithin (λ x. x ≢ w) ws 0 (length ws))
+    → MatchBool r (Lacks ws w → ⊥) (Lacks ws w)
+lacks_from ws w true at = λ l. l at.0 at.1 (at.2 [])
+lacks_from ws w false none = λ i h. none i [] (omega arith) h
+
+module _ (w : List ℕ) (ws : List (List ℕ)) where
+  -- the first word stands once, and none of the others twice
+  pub apart_first : Apart (w ∷ ws) → Lacks ws w
+  apart_first a = λ i h e. a 0 (suc i) (omega arith) (omega arith) (sym e)
+
+  pub apart_rest : Apart (w ∷ ws) → Apart ws
+  apart_rest a = λ i k l h. a (suc i) (suc k) (omega arith) (omega arith)
+
+  pub apart_cons : Lacks ws w → Apart ws → Apart (w ∷ ws)
+  apart_cons l a zero zero o h = absurd (omega arith)
+  apart_cons l a zero (suc k) o h = λ e. l k (omega arith) (sym e)
+  apart_cons l a (suc i) zero o h = absurd (omega arith)
+  apart_cons l a (suc i) (suc k) o h = a i k (omega arith) (omega arith)
+
+pub apart_none : Apart []
+apart_none i k l h = absurd (omega arith)

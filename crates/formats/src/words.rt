@@ -10,6 +10,17 @@ pub struct LineWords<'a> {
     rest: Option<&'a [u8]>,
 }
 
+impl LineWords<'_> {
+    // Is one of the words that are left equal to `word`?
+    fn has(mut self, word: &[u8]) -> bool
+        ensures { MatchBool result
+            (Lacks (words_left self.entry) word.now → ⊥)
+            (Lacks (words_left self.entry) word.now) }
+    {
+        self.any(|left| left == word)
+    }
+}
+
 // The words of the line that a text begins with: between two of them stands one space.
 pub fn line_words(text: &[u8]) -> LineWords<'_>
     ensures left { words_left result ≡ words text.now }
@@ -68,18 +79,15 @@ pub fn word_at(text: &[u8], k: usize) -> Option<&[u8]>
     line_words(text).nth(k)
 }
 
-// Does `word` stand at number `k` first?
-fn stands_first(text: &[u8], k: usize, word: &[u8]) -> bool
-    ensures { Decides result (FirstAt (words text.now) word.now k) }
-{
-    find_word(text, word) == Some(k)
-}
-
 // Does a word stand twice?
 pub fn repeats(text: &[u8]) -> bool
     ensures { MatchBool result (Apart (words text.now) → ⊥) (Apart (words text.now)) }
 {
-    !line_words(text)
-        .enumerate()
-        .all(|(k, word)| stands_first(text, k, word))
+    let mut words = line_words(text);
+    while let Some(word) = words.next() {
+        if words.has(word) {
+            return true;
+        }
+    }
+    false
 }
