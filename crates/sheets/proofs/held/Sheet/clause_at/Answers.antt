@@ -9,7 +9,7 @@ returns-then-i-self c =
     record {
       first = i.0;
       last = omega (arith, clauses-count c.args.self.now);
-      is = c.clause.ensures ∙ ap (λ k. get_or (clauses c.args.self.now) k c.clause.result) i.1;
+      is = c.clause.ensures ∙ ap (λ k. get_or (clauses c.args.self.now) k c.clause.result) (omega (arith, i.1));
     }
 
 pub returns-else-i-self : goal.returns-else-i-self
