@@ -24,14 +24,14 @@ fn listing_hands_out_each_explanation_once(rt: HostRuntime) {
     assert_eq!(rt; made, 5);
     assert_eq!(rt;
         entries[1].answer,
-        Some(Answer::Explanation(AtomSet::from_word(0b101)))
+        Answer::Explanation(AtomSet::from_word(0b101))
     );
     assert_eq!(rt;
         entries[2].answer,
-        Some(Answer::Explanation(AtomSet::from_word(0b010)))
+        Answer::Explanation(AtomSet::from_word(0b010))
     );
-    assert_eq!(rt; entries[3].answer, Some(Answer::NoMore));
-    assert_eq!(rt; entries[5].answer, None);
+    assert_eq!(rt; entries[3].answer, Answer::NoMore);
+    assert_eq!(rt; entries[5].answer, Answer::Pending);
 }
 
 #[test]
@@ -58,24 +58,24 @@ fn observations_stand_until_they_are_withdrawn(rt: HostRuntime) {
     assert_eq!(rt; made, 12);
     assert_eq!(rt;
         entries[1].answer,
-        Some(Answer::ObserveRefused(ObserveRefusal::AlreadyObserved))
+        Answer::ObserveRefused(ObserveRefusal::AlreadyObserved)
     );
     assert_eq!(rt;
         entries[2].answer,
-        Some(Answer::ObserveRefused(ObserveRefusal::NoSuchAtom))
+        Answer::ObserveRefused(ObserveRefusal::NoSuchAtom)
     );
     assert_eq!(rt;
         entries[4].answer,
-        Some(Answer::Explanation(AtomSet::from_word(0b101)))
+        Answer::Explanation(AtomSet::from_word(0b101))
     );
-    assert_eq!(rt; entries[5].answer, Some(Answer::NoMore));
+    assert_eq!(rt; entries[5].answer, Answer::NoMore);
     assert_eq!(rt;
         entries[8].answer,
-        Some(Answer::WithdrawRefused(WithdrawRefusal::NothingObserved))
+        Answer::WithdrawRefused(WithdrawRefusal::NothingObserved)
     );
     assert_eq!(rt;
         entries[11].answer,
-        Some(Answer::RequestRefused(RequestRefusal::ShelfFull))
+        Answer::RequestRefused(RequestRefusal::ShelfFull)
     );
 }
 

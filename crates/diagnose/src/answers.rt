@@ -17,18 +17,18 @@ where
 }
 
 // Adds the answer of a call, on a line of its own.
-fn write_answer(page: &mut Page<'_>, answer: Option<Answer>) -> Result<(), AllocError> {
+fn write_answer(page: &mut Page<'_>, answer: Answer) -> Result<(), AllocError> {
     match answer {
-        None => page.add(b"not asked\n"),
-        Some(Answer::Done) => page.add(b"taken\n"),
-        Some(Answer::Explanation(set)) => {
+        Answer::Pending => page.add(b"not asked\n"),
+        Answer::Done => page.add(b"taken\n"),
+        Answer::Explanation(set) => {
             page.add_names(set, b"nothing", b" ")?;
             page.add(b"\n")
         }
-        Some(Answer::NoMore) => page.add(b"no more\n"),
-        Some(Answer::ObserveRefused(refusal)) => write_refusal(page, refusal),
-        Some(Answer::WithdrawRefused(refusal)) => write_refusal(page, refusal),
-        Some(Answer::RequestRefused(refusal)) => write_refusal(page, refusal),
+        Answer::NoMore => page.add(b"no more\n"),
+        Answer::ObserveRefused(refusal) => write_refusal(page, refusal),
+        Answer::WithdrawRefused(refusal) => write_refusal(page, refusal),
+        Answer::RequestRefused(refusal) => write_refusal(page, refusal),
     }
 }
 
@@ -36,7 +36,7 @@ fn write_answer(page: &mut Page<'_>, answer: Option<Answer>) -> Result<(), Alloc
 fn write_listing(page: &mut Page<'_>, calls: &[Entry], count: usize) -> Result<(), AllocError> {
     for request in calls.iter().skip(1).take(count) {
         write_answer(page, request.answer)?;
-        if !matches!(request.answer, Some(Answer::Explanation(_))) {
+        if !matches!(request.answer, Answer::Explanation(_)) {
             return Ok(());
         }
     }
@@ -52,7 +52,10 @@ pub fn write_command(
 ) -> Result<(), AllocError> {
     match command {
         Command::Observe(_, _) | Command::Withdraw => {
-            write_answer(page, calls.first().and_then(|made| made.answer))
+            write_answer(
+                page,
+                calls.first().map_or(Answer::Pending, |made| made.answer),
+            )
         }
         Command::List(count) => write_listing(page, calls, count),
         Command::Judge(set) => {

@@ -1,6 +1,6 @@
 -- A history whose answers are right, call by call, keeps the law.
 use Rattle.std.specs.Prelude.{◌↔◌}
-use Rattle.std.proofs.Common.{◌≡◌, ℕ, ◌+◌, ◌<◌, ◌≤◌, Bool, List, [], ◌∷◌, ◌++◌, length, get_or, take, Some, None, Ok, Err, Option, sym, refl, ap, ◌∙◌, subst, append_assoc, arith, length-append}
+use Rattle.std.proofs.Common.{◌≡◌, ℕ, ◌+◌, ◌<◌, ◌≤◌, Bool, List, [], ◌∷◌, ◌++◌, length, get_or, take, Some, None, Ok, Err, sym, refl, ap, ◌∙◌, subst, append_assoc, arith, length-append}
 use Rattle.std.proofs.lemmas.List.{append-nil, take_all, take_more}
 use Rattle.atoms.specs.Atoms.{bits}
 use Rattle.atoms.specs.declared.AtomSet.{AtomSet}
@@ -35,7 +35,7 @@ never z = omega arith
 module _ (ms out : List ℕ) (places : ℕ) where
   -- the sets handed out stay the first so many
   replied_front : (x : Reply) → Answered ms out places x → out ≡ take (length out) ms →
-      out ++ handed_by (Some (told_request x)) ≡ take (length (out ++ handed_by (Some (told_request x)))) ms
+      out ++ handed_by (told_request x) ≡ take (length (out ++ handed_by (told_request x))) ms
   replied_front (Ok (Some s)) t f =
       let one : length (out ++ (bits s ∷ [])) ≡ length out + 1 = length-append out (bits s ∷ []) in
       sym (ap (λ (n : ℕ). take n ms) one ∙ take_more ms (length out) 0 t.0 ∙ ap (λ (xs : List ℕ). xs ++ (get_or ms (length out) 0 ∷ [])) (sym f)
@@ -43,37 +43,37 @@ module _ (ms out : List ℕ) (places : ℕ) where
   replied_front (Ok None) t f = append-nil out ∙ f ∙ ap (λ (xs : List ℕ). take (length xs) ms) (sym (append-nil out))
   replied_front (Err e) t f = append-nil out ∙ f ∙ ap (λ (xs : List ℕ). take (length xs) ms) (sym (append-nil out))
 
-  step_front : (r : Option Answer) → Told ms out places r → out ≡ take (length out) ms → out ++ handed_by r ≡ take (length (out ++ handed_by r)) ms
+  step_front : (r : Answer) → Told ms out places r → out ≡ take (length out) ms → out ++ handed_by r ≡ take (length (out ++ handed_by r)) ms
   step_front r t f =
-      subst (λ (x : Option Answer). out ++ handed_by x ≡ take (length (out ++ handed_by x)) ms) (sym t.1) (replied_front t.0 t.2 f)
+      subst (λ (x : Answer). out ++ handed_by x ≡ take (length (out ++ handed_by x)) ms) (sym t.1) (replied_front t.0 t.2 f)
 
   module _ (front : out ≡ take (length out) ms) where
     pub whole : length ms ≤ length out → out ≡ ms
     whole e = front ∙ take_all (length out) ms e
 
-    no_more : (x : Reply) → Answered ms out places x → (Some (told_request x) ≡ Some NoMore) ↔ (out ≡ ms)
+    no_more : (x : Reply) → Answered ms out places x → (told_request x ≡ NoMore) ↔ (out ≡ ms)
     no_more (Ok (Some s)) t = ((λ e. absurd (never (cc))), λ e. absurd (omega (arith, t.0, ap length e)))
     no_more (Ok None) t = ((λ e. whole (omega (arith, t))), λ e. refl)
     no_more (Err WrongShelf) t = absurd t
     no_more (Err ShelfFull) t = ((λ e. absurd (never (cc))), λ e. absurd (omega (arith, t.0, ap length e)))
 
-    full : (x : Reply) → Answered ms out places x → (Some (told_request x) ≡ Some (RequestRefused ShelfFull)) ↔ ((length out < length ms) × (places ≤ length out))
+    full : (x : Reply) → Answered ms out places x → (told_request x ≡ RequestRefused ShelfFull) ↔ ((length out < length ms) × (places ≤ length out))
     full (Ok (Some s)) t = ((λ e. absurd (never (cc))), λ k. absurd (omega (arith, t.1, k.1)))
     full (Ok None) t = ((λ e. absurd (never (cc))), λ k. absurd (omega (arith, t, k.0)))
     full (Err WrongShelf) t = absurd t
     full (Err ShelfFull) t = ((λ e. t), λ k. refl)
 
-    next : (x : Reply) → Answered ms out places x → (Some (told_request x) ≡ Some NoMore → ⊥) → (Some (told_request x) ≡ Some (RequestRefused ShelfFull) → ⊥) →
-        (s : AtomSet) × (Some (told_request x) ≡ Some (Explanation s)) × (length out < length ms) × (bits s ≡ get_or ms (length out) 0)
+    next : (x : Reply) → Answered ms out places x → (told_request x ≡ NoMore → ⊥) → (told_request x ≡ RequestRefused ShelfFull → ⊥) →
+        (s : AtomSet) × (told_request x ≡ Explanation s) × (length out < length ms) × (bits s ≡ get_or ms (length out) 0)
     next (Ok (Some s)) k p q = (s, refl, k.0, k.2)
     next (Ok None) k p q = absurd (p refl)
     next (Err WrongShelf) k p q = absurd k
     next (Err ShelfFull) k p q = absurd (q refl)
 
-    pub due : (cs : List Clause) → Explanations language cs ms → (r : Option Answer) → Told ms out places r → Due cs ms out places r
+    pub due : (cs : List Clause) → Explanations language cs ms → (r : Answer) → Told ms out places r → Due cs ms out places r
     due cs l r t =
         let n = no_more t.0 t.2 in
-        subst (λ (x : Option Answer). Due cs ms out places x) (sym t.1) (record {
+        subst (λ (x : Answer). Due cs ms out places x) (sym t.1) (record {
           no_more = n;
           none_at_first = λ e. ((λ k. empty_none laws cs ms l (sym (n.0 k) ∙ e)), λ k. n.1 (e ∙ sym (none_empty laws cs ms l k)));
           full = full t.0 t.2;
@@ -110,19 +110,19 @@ module _ (cs : List Clause) (places : ℕ) where
       right_at : (k : Call) → e.call ≡ k → Right cs places (phase_after before) k e.answer
       right_at k is = subst (λ (c : Call). Right cs places (phase_after before) c e.answer) is right
 
-    observe_at : (p : Phase) (a : ℕ) (q : Bool) (r : Option Answer) → Right cs places p (Observe a q) r → r ≡ Some (told_observe (verdict (seen_by p) a))
+    observe_at : (p : Phase) (a : ℕ) (q : Bool) (r : Answer) → Right cs places p (Observe a q) r → r ≡ told_observe (verdict (seen_by p) a)
     observe_at (resting os) a q r w = w
     observe_at (listing os out) a q r w = absurd w
 
-    withdraw_at : (p : Phase) (r : Option Answer) → Right cs places p Withdraw r → r ≡ Some (told_withdraw (withdrawal (seen_by p)))
+    withdraw_at : (p : Phase) (r : Answer) → Right cs places p Withdraw r → r ≡ told_withdraw (withdrawal (seen_by p))
     withdraw_at (resting os) r w = w
     withdraw_at (listing os out) r w = absurd w
 
-    open_at : (p : Phase) (r : Option Answer) → Right cs places p Open r → r ≡ Some Done
+    open_at : (p : Phase) (r : Answer) → Right cs places p Open r → r ≡ Done
     open_at (resting os) r w = w
     open_at (listing os out) r w = absurd w
 
-    close_at : (p : Phase) (r : Option Answer) → Right cs places p Close r → r ≡ Some Done
+    close_at : (p : Phase) (r : Answer) → Right cs places p Close r → r ≡ Done
     close_at (resting os) r w = absurd w
     close_at (listing os out) r w = w
 
@@ -137,11 +137,11 @@ module _ (cs : List Clause) (places : ℕ) where
           observing =
               λ before rest e a q place is.
               observe_at (phase_after before) a q e.answer (right_at before rest e place (Observe a q) is)
-              ∙ ap (λ (os : List Observation). Some (told_observe (verdict os a))) (standing_is cs places before (earlier before rest e place));
+              ∙ ap (λ (os : List Observation). told_observe (verdict os a)) (standing_is cs places before (earlier before rest e place));
           withdrawing =
               λ before rest e place is.
               withdraw_at (phase_after before) e.answer (right_at before rest e place Withdraw is)
-              ∙ ap (λ (os : List Observation). Some (told_withdraw (withdrawal os))) (standing_is cs places before (earlier before rest e place));
+              ∙ ap (λ (os : List Observation). told_withdraw (withdrawal os)) (standing_is cs places before (earlier before rest e place));
           opening = λ before rest e place is. open_at (phase_after before) e.answer (right_at before rest e place Open is);
           closing = λ before rest e place is. close_at (phase_after before) e.answer (right_at before rest e place Close is);
           in_turn = λ before rest e place. turn cs places before (earlier before rest e place) e.call e.answer (right before rest e place);

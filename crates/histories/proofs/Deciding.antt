@@ -1,5 +1,5 @@
 -- The law decides every answer, and a refused call leaves no trace.
-use Rattle.std.proofs.Common.{◌≡◌, ℕ, ◌<◌, ◌≤◌, cond, ltb, ◌⊎◌, List, [], ◌∷◌, ◌++◌, map, length, get_or, take, Some, None, Ok, Err, Option, sym, refl, ap, ◌∙◌, subst, ap₂, inl, inr, append_assoc, arith}
+use Rattle.std.proofs.Common.{◌≡◌, ℕ, ◌<◌, ◌≤◌, cond, ltb, ◌⊎◌, List, [], ◌∷◌, ◌++◌, map, length, get_or, take, Some, None, Ok, Err, sym, refl, ap, ◌∙◌, subst, ap₂, inl, inr, append_assoc, arith}
 use Rattle.std.proofs.lemmas.List.{append-nil}
 use Rattle.std.proofs.lemmas.Bool.{cases_lt, cond-false, cond-true, le-ltb, lt-ltb}
 use Rattle.atoms.specs.Atoms.{set_of}
@@ -20,7 +20,7 @@ use Rattle.histories.specs.Phases.{after, Lawful, LawfulFrom, Phase, phase_after
 use Rattle.histories.specs.Phases.Phase.{resting, listing}
 use Rattle.histories.specs.Theorems.{NoFreedom, NoTrace, Refused}
 use Rattle.histories.specs.declared.calls.Answer.{Answer}
-use Rattle.histories.specs.declared.calls.Answer.TheVariants.{Done, Explanation, NoMore, ObserveRefused, WithdrawRefused, RequestRefused}
+use Rattle.histories.specs.declared.calls.Answer.TheVariants.{Pending, Done, Explanation, NoMore, ObserveRefused, WithdrawRefused, RequestRefused}
 use Rattle.histories.specs.declared.calls.Call.{Call}
 use Rattle.histories.specs.declared.calls.Call.TheVariants.{Observe, Withdraw, Open, Request, Close}
 use Rattle.histories.specs.declared.calls.Entry.{Entry}
@@ -41,11 +41,11 @@ reply_is ms out places (Err WrongShelf) t = absurd t
 reply_is ms out places (Err ShelfFull) t =
     sym (cond-true (ltb (length out) (length ms)) _ _ (lt-ltb (length out) (length ms) t.0) ∙ cond-false (ltb (length out) places) _ _ (le-ltb (length out) places t.1))
 
-told_is : (ms out : List ℕ) (places : ℕ) (r : Option Answer) → Told ms out places r → r ≡ Some (told_request (the_reply ms out places))
-told_is ms out places r t = t.1 ∙ ap (λ (x : Reply). Some (told_request x)) (reply_is ms out places t.0 t.2)
+told_is : (ms out : List ℕ) (places : ℕ) (r : Answer) → Told ms out places r → r ≡ told_request (the_reply ms out places)
+told_is ms out places r t = t.1 ∙ ap told_request (reply_is ms out places t.0 t.2)
 
 -- what is due is told
-module _ (cs : List Clause) (ms out : List ℕ) (places : ℕ) (front : out ≡ take (length out) ms) (r : Option Answer) (d : Due cs ms out places r) where
+module _ (cs : List Clause) (ms out : List ℕ) (places : ℕ) (front : out ≡ take (length out) ms) (r : Answer) (d : Due cs ms out places r) where
   pub told : Told ms out places r
   told = left (cases_lt (length out) (length ms))
     where
@@ -104,7 +104,7 @@ module _ (cs : List Clause) (places : ℕ) where
     pub lawful : Lawful cs places h
     lawful = lawful_rest h [] refl tt
 
-  right_one : (p : Phase) (k : Call) (r r' : Option Answer) → Right cs places p k r → Right cs places p k r' → r ≡ r'
+  right_one : (p : Phase) (k : Call) (r r' : Answer) → Right cs places p k r → Right cs places p k r' → r ≡ r'
   right_one (resting os) (Observe a q) r r' w w' = w ∙ sym w'
   right_one (resting os) Withdraw r r' w w' = w ∙ sym w'
   right_one (resting os) Open r r' w w' = w ∙ sym w'
@@ -127,22 +127,22 @@ module _ (cs : List Clause) (places : ℕ) where
       let call : x.call ≡ y.call = cc in
       let calls : map call_of h ≡ map call_of h' = cc in
       let answer : x.answer ≡ y.answer = right_one p y.call x.answer y.answer (subst (λ (k : Call). Right cs places p k x.answer) call l.0) l'.0 in
-      let same : x ≡ y = ap₂ (λ (k : Call) (r : Option Answer). record { call = k; answer = r }) call answer in
+      let same : x ≡ y = ap₂ (λ (k : Call) (r : Answer). record { call = k; answer = r }) call answer in
       ap₂ (λ (z : Entry) (es : List Entry). z ∷ es) same
       (lawful_one (after p y.call y.answer) h h' (subst (λ (z : Entry). LawfulFrom cs places (after p z.call z.answer) h) same l.1) l'.1 calls)
 
   -- a refusal takes no observation, and hands out nothing
-  nothing_done : (r : Option Answer) (xs ys : List Observation) → Refused r → (if_done r xs ys ≡ ys) × (handed_by r ≡ [])
-  nothing_done None xs ys f = absurd f
-  nothing_done (Some Done) xs ys f = absurd f
-  nothing_done (Some (Explanation s)) xs ys f = absurd f
-  nothing_done (Some NoMore) xs ys f = absurd f
-  nothing_done (Some (ObserveRefused e)) xs ys f = (refl, refl)
-  nothing_done (Some (WithdrawRefused e)) xs ys f = (refl, refl)
-  nothing_done (Some (RequestRefused e)) xs ys f = (refl, refl)
+  nothing_done : (r : Answer) (xs ys : List Observation) → Refused r → (if_done r xs ys ≡ ys) × (handed_by r ≡ [])
+  nothing_done Pending xs ys f = absurd f
+  nothing_done Done xs ys f = absurd f
+  nothing_done (Explanation s) xs ys f = absurd f
+  nothing_done NoMore xs ys f = absurd f
+  nothing_done (ObserveRefused e) xs ys f = (refl, refl)
+  nothing_done (WithdrawRefused e) xs ys f = (refl, refl)
+  nothing_done (RequestRefused e) xs ys f = (refl, refl)
 
   -- a refused call leaves the phase as it was
-  stays : (p : Phase) (k : Call) (r : Option Answer) → Right cs places p k r → Refused r → after p k r ≡ p
+  stays : (p : Phase) (k : Call) (r : Answer) → Right cs places p k r → Refused r → after p k r ≡ p
   stays (resting os) (Observe a q) r w f = ap resting (nothing_done r _ os f).0
   stays (resting os) Withdraw r w f = ap resting (nothing_done r _ os f).0
   stays (resting os) Open r w f = absurd (subst Refused w f)

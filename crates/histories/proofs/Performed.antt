@@ -1,5 +1,5 @@
 -- An opening keeps a case in its phase.
-use Rattle.std.proofs.Common.{◌≡◌, List, [], map, Some, sym, ap, ◌∙◌, subst, ap₂}
+use Rattle.std.proofs.Common.{◌≡◌, List, [], map, sym, ap, ◌∙◌, subst, ap₂}
 use Rattle.atoms.specs.Atoms.{bits}
 use Rattle.atoms.specs.declared.AtomSet.{AtomSet}
 use Rattle.clauses.specs.declared.clauses.Clause.{Clause}
@@ -21,9 +21,9 @@ module _ {S : Type 0} (f : S → List Clause) (st : State S) (k : Call) (ts : Li
   -- a case at rest that is opened is in a listing that has handed out nothing
   pub opened :
       (c : Case S) (l : Listing S) (ts' : List AtomSet) → st ≡ AtRest c → k ≡ Open → standing (listed l) ≡ standing (cases.resting c) →
-      ((cs : List Clause) → Sound cs l []) → ts' ≡ [] → Agrees f (Listed l) ts' (after p k (Some Done))
+      ((cs : List Clause) → Sound cs l []) → ts' ≡ [] → Agrees f (Listed l) ts' (after p k Done)
   opened c l ts' is called stands sound none =
       let at_rest : p ≡ resting (standing (cases.resting c)) = subst (λ (x : State S). Agrees f x ts p) is ag in (
-        ap₂ (λ (q : Phase) (x : Call). after q x (Some Done)) at_rest called ∙ ap₂ listing (sym stands) (ap (map bits) (sym none)),
+        ap₂ (λ (q : Phase) (x : Call). after q x Done) at_rest called ∙ ap₂ listing (sym stands) (ap (map bits) (sym none)),
         subst (λ (xs : List AtomSet). Sound (clauses_of f l) l (map bits xs)) (sym none) (sound (clauses_of f l)),
       )

@@ -1,5 +1,5 @@
 -- The phases of a history that is lawful, by its listings.
-use Rattle.std.proofs.Common.{◌≡◌, ℕ, ◌⊎◌, List, [], ◌∷◌, ◌++◌, Option, sym, refl, ap, ◌∙◌, subst, ap₂, inl, inr, append_assoc}
+use Rattle.std.proofs.Common.{◌≡◌, ℕ, ◌⊎◌, List, [], ◌∷◌, ◌++◌, sym, refl, ap, ◌∙◌, subst, ap₂, inl, inr, append_assoc}
 use Rattle.std.proofs.lemmas.List.{append-nil}
 use Rattle.clauses.specs.declared.clauses.Clause.{Clause}
 use Rattle.layers.specs.declared.observations.Observation.{Observation}
@@ -54,7 +54,7 @@ module _ (cs : List Clause) (places : ℕ) where
   lawful_join p [] ys l m = m
   lawful_join p (x ∷ xs) ys l m = (l.0, lawful_join (after p x.call x.answer) xs ys l.1 m)
 
-  step_standing : (p : Phase) (k : Call) (r : Option Answer) → Right cs places p k r → seen_by (after p k r) ≡ stood (seen_by p) k r
+  step_standing : (p : Phase) (k : Call) (r : Answer) → Right cs places p k r → seen_by (after p k r) ≡ stood (seen_by p) k r
   step_standing (resting os) (Observe a q) r w = refl
   step_standing (resting os) Withdraw r w = refl
   step_standing (resting os) Open r w = refl
@@ -76,7 +76,7 @@ module _ (cs : List Clause) (places : ℕ) where
   pub standing_is : (h : List Entry) → Lawful cs places h → seen_by (phase_after h) ≡ standing h
   standing_is h l = standing_from_lem (resting []) h l
 
-  open_rests : (q : Phase) (k : Call) (r : Option Answer) → k ≡ Open → Right cs places q k r → q ≡ resting (seen_by q)
+  open_rests : (q : Phase) (k : Call) (r : Answer) → k ≡ Open → Right cs places q k r → q ≡ resting (seen_by q)
   open_rests (resting os) k r e w = refl
   open_rests (listing os out) k r e w = absurd (subst (λ (x : Call). Right cs places (listing os out) x r) e w)
 
@@ -130,7 +130,7 @@ module _ (cs : List Clause) (places : ℕ) where
   Gate (resting os) h = Opened h
   Gate (listing os out) h = Requests h ⊎ Opened h
 
-  gate_step : (p : Phase) (e : Entry) (es : List Entry) (k : Call) (r : Option Answer) → e.call ≡ k → Right cs places p k r → Gate (after p k r) es → Gate p (e ∷ es)
+  gate_step : (p : Phase) (e : Entry) (es : List Entry) (k : Call) (r : Answer) → e.call ≡ k → Right cs places p k r → Gate (after p k r) es → Gate p (e ∷ es)
   gate_step (resting os) e es (Observe a q) r is w g = opened_cons e es g
   gate_step (resting os) e es Withdraw r is w g = opened_cons e es g
   gate_step (resting os) e es Open r is w (inl all) =
@@ -155,7 +155,7 @@ module _ (cs : List Clause) (places : ℕ) where
   going_opened h l g = gate_from (resting []) h l g
 
   -- a call that is answered rightly is in turn
-  turn_in : (p : Phase) (k : Call) (r : Option Answer) → Right cs places p k r → Turn (Going p) k
+  turn_in : (p : Phase) (k : Call) (r : Answer) → Right cs places p k r → Turn (Going p) k
   turn_in (resting os) (Observe a q) r w = λ going. going
   turn_in (resting os) Withdraw r w = λ going. going
   turn_in (resting os) Open r w = λ going. going
@@ -167,7 +167,7 @@ module _ (cs : List Clause) (places : ℕ) where
   turn_in (listing os out) Request r w = tt
   turn_in (listing os out) Close r w = tt
 
-  pub turn : (h : List Entry) → Lawful cs places h → (k : Call) (r : Option Answer) → Right cs places (phase_after h) k r → InTurn h k
+  pub turn : (h : List Entry) → Lawful cs places h → (k : Call) (r : Answer) → Right cs places (phase_after h) k r → InTurn h k
   turn h l k r w = same_turn (Going (phase_after h)) (Opened h) (going_opened h l) (opened_going h l) k (turn_in (phase_after h) k r w)
 
   pub barred : (h : List Entry) → Lawful cs places h → (k : Call) → Barred (phase_after h) k → InTurn h k → ⊥

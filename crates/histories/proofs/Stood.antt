@@ -1,5 +1,5 @@
 -- The observations that stand after one more entry of a history that keeps the law.
-use Rattle.std.proofs.Common.{◌≡◌, ℕ, suc, ◌+◌, ◌<◌, Bool, List, [], ◌∷◌, ◌++◌, length, get_or, take, drop, Some, Option, sym, refl, ap, ◌∙◌, append_assoc, drop-cons}
+use Rattle.std.proofs.Common.{◌≡◌, ℕ, suc, ◌+◌, ◌<◌, Bool, List, [], ◌∷◌, ◌++◌, length, get_or, take, drop, sym, refl, ap, ◌∙◌, append_assoc, drop-cons}
 use Rattle.std.proofs.lemmas.List.{take-append-drop, take_more}
 use Rattle.clauses.specs.declared.clauses.Clause.{Clause}
 use Rattle.layers.specs.declared.observations.Observation.{Observation}
@@ -14,8 +14,8 @@ use Rattle.histories.specs.declared.calls.Entry.{Entry}
 
 -- an answer that is right leaves what a case at rest would leave
 right_stood :
-    (os : List Observation) (k : Call) (r : Option Answer) → ((a : ℕ) (p : Bool) → k ≡ Observe a p → r ≡ Some (told_observe (verdict os a))) →
-    (k ≡ Withdraw → r ≡ Some (told_withdraw (withdrawal os))) → stood os k r ≡ stood os k (Some (replied os k))
+    (os : List Observation) (k : Call) (r : Answer) → ((a : ℕ) (p : Bool) → k ≡ Observe a p → r ≡ told_observe (verdict os a)) →
+    (k ≡ Withdraw → r ≡ told_withdraw (withdrawal os)) → stood os k r ≡ stood os k (replied os k)
 right_stood os (Observe a p) r o w = ap (stood os (Observe a p)) (o a p refl)
 right_stood os Withdraw r o w = ap (stood os Withdraw) (w refl)
 right_stood os Open r o w = refl
@@ -28,7 +28,7 @@ standing_join os (x ∷ xs) ys = standing_join (stood os x.call x.answer) xs ys
 
 -- the observations after the entry e, which is the i-th of h
 module _ (cs : List Clause) (places : ℕ) (h later : List Entry) (law : Complete cs places (h ++ later)) (i : ℕ) (lt : i < length h) where
-  one_more : (e : Entry) → e ≡ get_or h i e → standing (take (i + 1) h) ≡ stood (standing (take i h)) e.call (Some (replied (standing (take i h)) e.call))
+  one_more : (e : Entry) → e ≡ get_or h i e → standing (take (i + 1) h) ≡ stood (standing (take i h)) e.call (replied (standing (take i h)) e.call)
   one_more e is =
       let before = take i h in
       let rest = drop (suc i) h ++ later in
@@ -39,6 +39,6 @@ module _ (cs : List Clause) (places : ℕ) (h later : List Entry) (law : Complet
       ∙ right_stood (standing before) e.call e.answer (λ a p k. law.observing before rest e a p place k) (λ k. law.withdrawing before rest e place k)
 
   pub stands_on :
-      (e : Entry) → e ≡ get_or h i e → (os os' : List Observation) → os ≡ standing (take i h) → os' ≡ stood os e.call (Some (replied os e.call)) →
+      (e : Entry) → e ≡ get_or h i e → (os os' : List Observation) → os ≡ standing (take i h) → os' ≡ stood os e.call (replied os e.call) →
       os' ≡ standing (take (i + 1) h)
-  stands_on e is os os' p q = q ∙ ap (λ (xs : List Observation). stood xs e.call (Some (replied xs e.call))) p ∙ sym (one_more e is)
+  stands_on e is os os' p q = q ∙ ap (λ (xs : List Observation). stood xs e.call (replied xs e.call)) p ∙ sym (one_more e is)

@@ -1,11 +1,11 @@
 -- The answers of calls, and the entries of a history.
-use Rattle.std.specs.Prelude.{◌≡◌, ℕ, ◌≤◌, false, List, [], ◌∷◌, ◌++◌, map, length, drop, Some, None, Ok, Err, Option, Result}
+use Rattle.std.specs.Prelude.{◌≡◌, ℕ, ◌≤◌, false, List, [], ◌∷◌, ◌++◌, map, length, drop, Some, None, Ok, Err, Result}
 use Rattle.atoms.specs.Atoms.{bits}
 use Rattle.cases.specs.Requests.{Reply}
 use Rattle.cases.specs.declared.refusals.ObserveRefusal.{ObserveRefusal}
 use Rattle.cases.specs.declared.refusals.WithdrawRefusal.{WithdrawRefusal}
 use Rattle.histories.specs.declared.calls.Answer.{Answer}
-use Rattle.histories.specs.declared.calls.Answer.TheVariants.{Done, Explanation, NoMore, ObserveRefused, WithdrawRefused, RequestRefused}
+use Rattle.histories.specs.declared.calls.Answer.TheVariants.{Pending, Done, Explanation, NoMore, ObserveRefused, WithdrawRefused, RequestRefused}
 use Rattle.histories.specs.declared.calls.Call.{Call}
 use Rattle.histories.specs.declared.calls.Call.TheVariants.{Observe}
 use Rattle.histories.specs.declared.calls.Entry.{Entry}
@@ -25,8 +25,8 @@ told_request (Ok None) = NoMore
 told_request (Err e) = RequestRefused e
 
 -- the sets that an answer hands out: one or none
-abbrev pub handed_by : Option Answer → List ℕ
-handed_by (Some (Explanation s)) = bits s ∷ []
+abbrev pub handed_by : Answer → List ℕ
+handed_by (Explanation s) = bits s ∷ []
 handed_by r = []
 
 -- the sets that entries hand out, in order
@@ -39,7 +39,7 @@ call_of e = e.call
 
 -- the entry of a call that is not made yet
 abbrev pub unmade : Call → Entry
-unmade k = record { call = k; answer = None }
+unmade k = record { call = k; answer = Pending }
 
 -- an entry of no history, where none is read
 abbrev pub blank : Entry

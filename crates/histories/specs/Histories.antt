@@ -1,6 +1,6 @@
 -- The law over whole runs, in the words of the subject. A history is a list of entries, each a call with its answer. A call
--- without an answer keeps no law.
-use Rattle.std.specs.Prelude.{◌≡◌, ◌↔◌, ℕ, ◌<◌, ◌≤◌, Bool, List, [], ◌∷◌, ◌++◌, length, take, ◌≢◌, Some, Option, slice_index}
+-- that is pending keeps no law.
+use Rattle.std.specs.Prelude.{◌≡◌, ◌↔◌, ℕ, ◌<◌, ◌≤◌, Bool, List, [], ◌∷◌, ◌++◌, length, take, ◌≢◌, slice_index}
 use Rattle.std.specs.List.{AllByRecursion}
 use Rattle.atoms.specs.Atoms.{bits}
 use Rattle.atoms.specs.declared.AtomSet.{AtomSet}
@@ -19,13 +19,13 @@ use Rattle.histories.specs.declared.calls.Call.TheVariants.{Observe, Withdraw, O
 use Rattle.histories.specs.declared.calls.Entry.{Entry}
 
 -- the call was taken
-abbrev pub if_done : Option Answer → List Observation → List Observation → List Observation
-if_done (Some Done) yes' no' = yes'
+abbrev pub if_done : Answer → List Observation → List Observation → List Observation
+if_done Done yes' no' = yes'
 if_done r yes' no' = no'
 
 -- the observations that stand after one more entry: an observation that is taken stands last, and a withdrawal takes the
 -- last back
-abbrev pub stood : List Observation → Call → Option Answer → List Observation
+abbrev pub stood : List Observation → Call → Answer → List Observation
 stood os (Observe a p) r = if_done r (os ++ (observation a p ∷ [])) os
 stood os Withdraw r = if_done r (withdrawn os) os
 stood os Open r = os
@@ -52,17 +52,17 @@ pub record Listed (h before during rest : List Entry) : Type 0 where
   pub asked : Requests during
 
 -- the answer r of a request, where the listing's clauses are cs with the explanations ms, and `out` was handed out in it before
-pub record Due (cs : List Clause) (ms out : List ℕ) (places : ℕ) (r : Option Answer) : Type 0 where
+pub record Due (cs : List Clause) (ms out : List ℕ) (places : ℕ) (r : Answer) : Type 0 where
   -- "no more" exactly when all are handed out
-  pub no_more : (r ≡ Some NoMore) ↔ (out ≡ ms)
+  pub no_more : (r ≡ NoMore) ↔ (out ≡ ms)
   -- with nothing handed out, exactly when the clauses have no model
-  pub none_at_first : out ≡ [] → (r ≡ Some NoMore) ↔ ((t : ℕ) → ¬ Model language cs t)
+  pub none_at_first : out ≡ [] → (r ≡ NoMore) ↔ ((t : ℕ) → ¬ Model language cs t)
   -- "shelf full" exactly when one is left and no place is free
-  pub full : (r ≡ Some (RequestRefused ShelfFull)) ↔ ((length out < length ms) × (places ≤ length out))
+  pub full : (r ≡ RequestRefused ShelfFull) ↔ ((length out < length ms) × (places ≤ length out))
   -- any other answer is the next explanation
   pub next :
-      (r ≢ Some NoMore) → (r ≢ Some (RequestRefused ShelfFull)) →
-      (s : AtomSet) × (r ≡ Some (Explanation s)) × (length out < length ms) × (bits s ≡ slice_index ms (length out))
+      (r ≢ NoMore) → (r ≢ RequestRefused ShelfFull) →
+      (s : AtomSet) × (r ≡ Explanation s) × (length out < length ms) × (bits s ≡ slice_index ms (length out))
 
 -- a listing of h is open at its end
 abbrev pub Opened : List Entry → Type 0
@@ -95,14 +95,14 @@ pub record Complete (cs : List Clause) (places : ℕ) (h : List Entry) : Type 0 
   -- observing is refused where there is no such atom, else where it is observed, else taken
   pub observing :
       (before rest : List Entry) (e : Entry) (a : ℕ) (p : Bool) → h ≡ before ++ (e ∷ rest) → e.call ≡ Observe a p →
-      e.answer ≡ Some (told_observe (verdict (standing before) a))
+      e.answer ≡ told_observe (verdict (standing before) a)
   -- withdrawing is refused where nothing stands, else taken
   pub withdrawing :
       (before rest : List Entry) (e : Entry) → h ≡ before ++ (e ∷ rest) → e.call ≡ Withdraw →
-      e.answer ≡ Some (told_withdraw (withdrawal (standing before)))
+      e.answer ≡ told_withdraw (withdrawal (standing before))
   -- opening and closing are done
-  pub opening : (before rest : List Entry) (e : Entry) → h ≡ before ++ (e ∷ rest) → e.call ≡ Open → e.answer ≡ Some Done
-  pub closing : (before rest : List Entry) (e : Entry) → h ≡ before ++ (e ∷ rest) → e.call ≡ Close → e.answer ≡ Some Done
+  pub opening : (before rest : List Entry) (e : Entry) → h ≡ before ++ (e ∷ rest) → e.call ≡ Open → e.answer ≡ Done
+  pub closing : (before rest : List Entry) (e : Entry) → h ≡ before ++ (e ∷ rest) → e.call ≡ Close → e.answer ≡ Done
   -- each call is in turn
   pub in_turn : (before rest : List Entry) (e : Entry) → h ≡ before ++ (e ∷ rest) → InTurn before e.call
 

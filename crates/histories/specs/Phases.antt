@@ -21,7 +21,7 @@ pub data Phase : Type 0 where
   listing : List Observation → List ℕ → Phase
 
 -- the phase after a call was answered
-abbrev pub after : Phase → Call → Option Answer → Phase
+abbrev pub after : Phase → Call → Answer → Phase
 after (resting os) (Observe a p) r = resting (stood os (Observe a p) r)
 after (resting os) Withdraw r = resting (stood os Withdraw r)
 after (resting os) Open r = listing os []
@@ -42,8 +42,8 @@ abbrev pub phase_after : List Entry → Phase
 phase_after es = phase_from (resting []) es
 
 -- the answer to a request, where the explanations are ms and `out` is handed out
-abbrev pub Told : List ℕ → List ℕ → ℕ → Option Answer → Type 0
-Told ms out places r = (x : Reply) × (r ≡ Some (told_request x)) × Answered ms out places x
+abbrev pub Told : List ℕ → List ℕ → ℕ → Answer → Type 0
+Told ms out places r = (x : Reply) × (r ≡ told_request x) × Answered ms out places x
 
 -- a listing is open in the phase
 abbrev pub Going : Phase → Type 0
@@ -55,17 +55,17 @@ abbrev pub Barred : Phase → Call → Type 0
 Barred p k = ¬ Turn (Going p) k
 
 -- the call is for the phase, and the answer is right there
-abbrev pub Right : List Clause → ℕ → Phase → Call → Option Answer → Type 0
-Right cs places (resting os) (Observe a p) r = r ≡ Some (told_observe (verdict os a))
-Right cs places (resting os) Withdraw r = r ≡ Some (told_withdraw (withdrawal os))
-Right cs places (resting os) Open r = r ≡ Some Done
+abbrev pub Right : List Clause → ℕ → Phase → Call → Answer → Type 0
+Right cs places (resting os) (Observe a p) r = r ≡ told_observe (verdict os a)
+Right cs places (resting os) Withdraw r = r ≡ told_withdraw (withdrawal os)
+Right cs places (resting os) Open r = r ≡ Done
 Right cs places (resting os) Request r = ⊥
 Right cs places (resting os) Close r = ⊥
 Right cs places (listing os out) (Observe a p) r = ⊥
 Right cs places (listing os out) Withdraw r = ⊥
 Right cs places (listing os out) Open r = ⊥
 Right cs places (listing os out) Request r = (ms : List ℕ) → Explanations language (observed_over os cs) ms → Told ms out places r
-Right cs places (listing os out) Close r = r ≡ Some Done
+Right cs places (listing os out) Close r = r ≡ Done
 
 -- each answer is right, from a phase on
 abbrev pub LawfulFrom : List Clause → ℕ → Phase → List Entry → Type 0
@@ -78,8 +78,8 @@ Lawful cs places h = LawfulFrom cs places (resting []) h
 -- a call that is answered, or is not for the phase
 abbrev pub Rightly : List Clause → ℕ → Phase → Call → Option Answer → Type 0
 Rightly cs places p call None = Barred p call
-Rightly cs places p call (Some r) = Right cs places p call (Some r)
+Rightly cs places p call (Some r) = Right cs places p call r
 
 abbrev pub onwards : Phase → Call → Option Answer → Phase
 onwards p call None = p
-onwards p call (Some r) = after p call (Some r)
+onwards p call (Some r) = after p call r

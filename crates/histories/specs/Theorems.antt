@@ -1,5 +1,5 @@
 -- What the law over whole runs comes to.
-use Rattle.std.specs.Prelude.{◌≡◌, ℕ, List, ◌∷◌, ◌++◌, map, Some, Option}
+use Rattle.std.specs.Prelude.{◌≡◌, ℕ, List, ◌∷◌, ◌++◌, map}
 use Rattle.clauses.specs.declared.clauses.Clause.{Clause}
 use Rattle.histories.specs.Answers.{call_of}
 use Rattle.histories.specs.Histories.{Complete}
@@ -14,10 +14,10 @@ NoFreedom =
     map call_of h ≡ map call_of h' → h ≡ h'
 
 -- the answer is a refusal
-abbrev pub Refused : Option Answer → Type 0
-Refused (Some (ObserveRefused e)) = Unit {0}
-Refused (Some (WithdrawRefused e)) = Unit {0}
-Refused (Some (RequestRefused e)) = Unit {0}
+abbrev pub Refused : Answer → Type 0
+Refused (ObserveRefused e) = Unit {0}
+Refused (WithdrawRefused e) = Unit {0}
+Refused (RequestRefused e) = Unit {0}
 Refused r = ⊥
 
 -- a refused call leaves no trace: the history without it keeps the law too

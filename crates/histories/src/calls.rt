@@ -20,6 +20,8 @@ pub enum Call {
 // What a call is answered. One enum for all calls: as a `Result` it would need an error enum of the three refusals beside it.
 #[derive(Clone, Copy, PartialEq, Eq, Debug)]
 pub enum Answer {
+    // the call is not made yet. With an option in its place an entry takes 32 bytes and not 24 of the memory that is lent.
+    Pending,
     Done,
     Explanation(AtomSet),
     NoMore,
@@ -32,8 +34,7 @@ pub enum Answer {
 #[derive(Clone, Copy, PartialEq, Eq, Debug)]
 pub struct Entry {
     pub call: Call,
-    // none while the call is not made
-    pub answer: Option<Answer>,
+    pub answer: Answer,
 }
 
 // What a refused observation is answered.
@@ -85,6 +86,9 @@ impl From<Call> for Entry {
     ghost from_gives = { λ call entry. entry ≡ unmade call };
 
     fn from(call: Call) -> Entry {
-        Entry { call, answer: None }
+        Entry {
+            call,
+            answer: Answer::Pending,
+        }
     }
 }

@@ -30,7 +30,7 @@ fn run<S: Source, H: Shelf>(source: S, shelf: &mut H, entries: &mut [Entry]) -> 
         let (next, answer) = state.perform(entry.call, shelf);
         state = next;
         match answer {
-            Some(answer) => entry.answer = Some(answer),
+            Some(answer) => entry.answer = answer,
             None => return (state, i),
         }
     }

@@ -1,5 +1,5 @@
 // The case that a history leaves, by its observations.
-ghost use Rattle.std.specs.Prelude.{◌≡◌, ℕ, List, ◌++◌, Some};
+ghost use Rattle.std.specs.Prelude.{◌≡◌, ℕ, List, ◌++◌};
 ghost use Rattle.clauses.specs.declared.clauses.Clause.{Clause};
 ghost use Rattle.layers.specs.Standing.{below, standing};
 ghost use Rattle.cases.specs.Cases.{resting};
@@ -13,7 +13,7 @@ use cases::Case;
 // Makes an observation or a withdrawal; no other call changes which observations stand.
 fn make_again<S>(case: &mut Case<S>, call: Call)
     ensures standing { standing (resting case.new)
-        ≡ stood (standing (resting case.old)) call (Some (replied (standing (resting case.old)) call)) }
+        ≡ stood (standing (resting case.old)) call (replied (standing (resting case.old)) call) }
     ensures below { below (resting case.new) ≡ below (resting case.old) }
 {
     match call {

@@ -64,11 +64,11 @@ fn case_on_an_indexed_shelf(rt: HostRuntime) {
     assert_eq!(rt; replay_indexed(&clauses, &mut records, &mut entries), 4);
     assert_eq!(rt;
         entries[1].answer,
-        Some(Answer::Explanation(AtomSet::from_word(0b101)))
+        Answer::Explanation(AtomSet::from_word(0b101))
     );
     assert_eq!(rt;
         entries[2].answer,
-        Some(Answer::Explanation(AtomSet::from_word(0b010)))
+        Answer::Explanation(AtomSet::from_word(0b010))
     );
-    assert_eq!(rt; entries[3].answer, Some(Answer::NoMore));
+    assert_eq!(rt; entries[3].answer, Answer::NoMore);
 }

@@ -1,4 +1,4 @@
-use Rattle.std.proofs.Common.{◌≡◌, ℕ, ◌<◌, List, length, get_or, take, Some, Option, sym, refl, ap, ◌∙◌, subst, arith}
+use Rattle.std.proofs.Common.{◌≡◌, ℕ, ◌<◌, List, length, get_or, take, Option, sym, refl, ap, ◌∙◌, subst, arith}
 use Rattle.std.proofs.Math.Seq.{map-set_same}
 use Rattle.clauses.specs.declared.clauses.Clause.{Clause}
 use Rattle.histories.specs.Answers.{call_of}
@@ -17,7 +17,7 @@ loop-i-preserved g c =
     let h = g.H.Shelf in
     let l = c.loop-i in
     let q = c.perform-next in
-    let r = Some c.in-Some.answer in
+    let r = c.in-Some.answer in
     let call : Call = (get_or l.entries l.i c.index-entries-i.result).call in
     let e : Entry = record { call = call; answer = r } in
     let within : l.i < length l.entries = omega (arith, c.loop-i-test.true, l.auto.entries) in
