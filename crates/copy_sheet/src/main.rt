@@ -4,7 +4,7 @@ use atoms::AtomSet;
 use clauses::{Clause, Kind, Origin};
 use help::HELP;
 use round_trips::rewrite;
-use std::alloc::{AllocError, Global};
+use std::alloc::AllocError;
 use std::io::{self, Read, Write};
 use std::process::ExitCode;
 use usage::{advise, early_status};
@@ -12,8 +12,9 @@ use wording::refusal_words;
 
 mod help;
 
-// The text again, where it is a sheet, and else the line of its refusal.
-fn copy(heap: Global, text: &[u8]) -> Result<Vec<u8>, AllocError> {
+// The text again, where it is a sheet, and else the line of its refusal, once the advice on it is told.
+fn copy(rt: &HostRuntime, text: &[u8]) -> Result<Vec<u8>, AllocError> {
+    let heap = rt.alloc();
     let blank = Clause {
         body: AtomSet::empty(),
         head: AtomSet::empty(),
@@ -30,7 +31,10 @@ fn copy(heap: Global, text: &[u8]) -> Result<Vec<u8>, AllocError> {
             out.truncate(size);
             Ok(out)
         }
-        Err(refusal) => refusal_words(heap, u8::from(refusal), refusal.line()),
+        Err(refusal) => {
+            advise(rt, text);
+            refusal_words(heap, u8::from(refusal), refusal.line())
+        }
     }
 }
 
@@ -41,8 +45,7 @@ fn main(rt: HostRuntime) -> io::Result<ExitCode> {
     }
     let mut text = Vec::new(rt.alloc());
     rt.stdin().read_to_end(&mut text)?;
-    let printed = copy(rt.alloc(), &text)?;
-    advise(&rt, &text);
+    let printed = copy(&rt, &text)?;
     rt.stdout().write_all(&printed)?;
     Ok(ExitCode::SUCCESS)
 }
