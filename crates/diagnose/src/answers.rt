@@ -1,7 +1,8 @@
 // Answers in words.
-use crate::commands::Command;
+use crate::commands::{CommandFault, Reply, named_set};
 use crate::judgements::{write_judgement, write_reasons};
-use histories::{Answer, Entry, case_after};
+use atoms::AtomSet;
+use histories::{Answer, Call, Entry, case_after};
 use judging::Judged;
 use std::alloc::AllocError;
 use std::fmt::Display;
@@ -33,8 +34,12 @@ fn write_answer(page: &mut Page<'_>, answer: Answer) -> Result<(), AllocError> {
 }
 
 // Adds the answers of the requests of a listing, up to the first that hands out nothing.
-fn write_listing(page: &mut Page<'_>, calls: &[Entry], count: usize) -> Result<(), AllocError> {
-    for request in calls.iter().skip(1).take(count) {
+fn write_listing(page: &mut Page<'_>, calls: &[Entry]) -> Result<(), AllocError> {
+    let requests = calls
+        .iter()
+        .skip(1)
+        .take_while(|made| matches!(made.call, Call::Request));
+    for request in requests {
         write_answer(page, request.answer)?;
         if !matches!(request.answer, Answer::Explanation(_)) {
             return Ok(());
@@ -43,28 +48,44 @@ fn write_listing(page: &mut Page<'_>, calls: &[Entry], count: usize) -> Result<(
     Ok(())
 }
 
-// Adds what a command is answered, from the calls before its own and from its own, with which `calls` begins.
-pub fn write_command(
+// Adds why a line is no command.
+pub fn write_fault(page: &mut Page<'_>, fault: CommandFault) -> Result<(), AllocError> {
+    page.add(fault.words().as_bytes())?;
+    page.add(b"\n")
+}
+
+// Adds what a question about a set comes to in the case that the calls before it leave.
+fn write_question(
     page: &mut Page<'_>,
-    command: Command,
+    reply: Reply,
+    set: AtomSet,
+    before: &[Entry],
+) -> Result<(), AllocError> {
+    let case = case_after(page.sheet(), before);
+    let judged = Judged { case: &case, set };
+    match reply {
+        Reply::Reasons => write_reasons(page, &judged),
+        _ => write_judgement(page, &judged),
+    }
+}
+
+// Adds what is told under the command on a line, from the calls before its own and from its own, with which `calls` begins.
+pub fn write_reply(
+    page: &mut Page<'_>,
+    line: &str,
+    reply: Reply,
     before: &[Entry],
     calls: &[Entry],
 ) -> Result<(), AllocError> {
-    match command {
-        Command::Observe(_, _) | Command::Withdraw => {
-            write_answer(
-                page,
-                calls.first().map_or(Answer::Pending, |made| made.answer),
-            )
+    match reply {
+        Reply::Answer => {
+            let answer = calls.first().map_or(Answer::Pending, |made| made.answer);
+            write_answer(page, answer)
         }
-        Command::List(count) => write_listing(page, calls, count),
-        Command::Judge(set) => {
-            let case = case_after(page.sheet(), before);
-            write_judgement(page, &Judged { case: &case, set })
-        }
-        Command::Reasons(set) => {
-            let case = case_after(page.sheet(), before);
-            write_reasons(page, &Judged { case: &case, set })
-        }
+        Reply::Listing => write_listing(page, calls),
+        Reply::Judgement | Reply::Reasons => match named_set(&page.sheet(), line) {
+            Ok(set) => write_question(page, reply, set, before),
+            Err(fault) => write_fault(page, fault),
+        },
     }
 }

@@ -6,6 +6,7 @@ use std::alloc::AllocError;
 use std::error::Error;
 use std::fmt;
 use std::iter::{once, repeat_n};
+use std::str::SplitWhitespace;
 
 // How many places the shelf has: no list is longer.
 pub const MOST: usize = 256;
@@ -18,10 +19,20 @@ pub enum Command {
     Withdraw,
     // So many requests of a listing.
     List(usize),
-    // Is the set a model, and a minimal one?
-    Judge(AtomSet),
-    // Why is each atom of the set in it?
-    Reasons(AtomSet),
+    // Is the set of the names on the line a model, and a minimal one?
+    Judge,
+    // Why is each of the names on the line needed?
+    Reasons,
+}
+
+// What is told under a command.
+#[derive(Clone, Copy)]
+pub enum Reply {
+    // the answer of its one call
+    Answer,
+    Listing,
+    Judgement,
+    Reasons,
 }
 
 // Why a line is no command.
@@ -31,31 +42,33 @@ pub enum CommandFault {
     NoSuchCommand,
 }
 
-// Why, in words.
-impl fmt::Display for CommandFault {
-    fn fmt<W: fmt::Write>(&self, f: &mut fmt::Formatter<W>) -> fmt::Result {
-        f.write_str(match self {
+impl CommandFault {
+    // Why, in words.
+    pub fn words(self) -> &'static str {
+        match self {
             CommandFault::NoSuchName => "no such name",
             CommandFault::NoSuchCommand => "no such command",
-        })
+        }
+    }
+}
+
+impl fmt::Display for CommandFault {
+    fn fmt<W: fmt::Write>(&self, f: &mut fmt::Formatter<W>) -> fmt::Result {
+        f.write_str(self.words())
     }
 }
 
 impl Error for CommandFault {}
 
 impl Command {
-    // Reads a line.
+    // Reads a line. The names of a question are not read: `named_set` reads them where it is answered.
     pub fn read(sheet: &Sheet<'_>, line: &str) -> Result<Command, CommandFault> {
         let mut words = line.split_whitespace();
-        match (words.next(), words.next(), words.next()) {
-            (Some("present"), Some(name), None) => Ok(Command::Observe(named(sheet, name)?, true)),
-            (Some("absent"), Some(name), None) => Ok(Command::Observe(named(sheet, name)?, false)),
-            (Some("withdraw"), None, _) => Ok(Command::Withdraw),
-            (Some("list"), None, _) => Ok(Command::List(MOST + 1)),
-            (Some("list"), Some(count), None) => listing_of(count),
-            (Some("judge"), _, _) => Ok(Command::Judge(named_set(sheet, line)?)),
-            (Some("reasons"), _, _) => Ok(Command::Reasons(named_set(sheet, line)?)),
-            _ => Err(CommandFault::NoSuchCommand),
+        match words.next() {
+            Some("judge") => Ok(Command::Judge),
+            Some("reasons") => Ok(Command::Reasons),
+            Some(word) => with_argument(sheet, word, words),
+            None => Err(CommandFault::NoSuchCommand),
         }
     }
 
@@ -67,9 +80,35 @@ impl Command {
             }
             Command::Withdraw => entries.push(Call::Withdraw.into())?,
             Command::List(count) => add_listing(entries, count)?,
-            Command::Judge(_) | Command::Reasons(_) => {}
+            Command::Judge | Command::Reasons => {}
         }
         Ok(())
+    }
+
+    // What is told under the command.
+    pub fn reply(self) -> Reply {
+        match self {
+            Command::Observe(_, _) | Command::Withdraw => Reply::Answer,
+            Command::List(_) => Reply::Listing,
+            Command::Judge => Reply::Judgement,
+            Command::Reasons => Reply::Reasons,
+        }
+    }
+}
+
+impl Reply {
+    // How many calls a command with this reply makes, which are the first of the calls.
+    pub fn call_count(self, calls: &[Entry]) -> usize {
+        match self {
+            Reply::Answer => 1,
+            Reply::Listing => {
+                let inner = calls
+                    .iter()
+                    .take_while(|made| !matches!(made.call, Call::Close));
+                inner.count().saturating_add(1)
+            }
+            Reply::Judgement | Reply::Reasons => 0,
+        }
     }
 }
 
@@ -81,12 +120,32 @@ fn named(sheet: &Sheet<'_>, name: &str) -> Result<Atom, CommandFault> {
 }
 
 // The set of the atoms that the words after the first name.
-fn named_set(sheet: &Sheet<'_>, line: &str) -> Result<AtomSet, CommandFault> {
+pub fn named_set(sheet: &Sheet<'_>, line: &str) -> Result<AtomSet, CommandFault> {
     let mut set = AtomSet::empty();
     for name in line.split_whitespace().skip(1) {
         set = set.with(named(sheet, name)?);
     }
     Ok(set)
+}
+
+// A command of a word and at most one later word. None is asked for after the last, since blanks would be read again.
+fn with_argument(
+    sheet: &Sheet<'_>,
+    word: &str,
+    mut later: SplitWhitespace<'_>,
+) -> Result<Command, CommandFault> {
+    let argument = later.next();
+    if argument.is_some() && later.next().is_some() {
+        return Err(CommandFault::NoSuchCommand);
+    }
+    match (word, argument) {
+        ("present", Some(name)) => Ok(Command::Observe(named(sheet, name)?, true)),
+        ("absent", Some(name)) => Ok(Command::Observe(named(sheet, name)?, false)),
+        ("withdraw", None) => Ok(Command::Withdraw),
+        ("list", None) => Ok(Command::List(MOST + 1)),
+        ("list", Some(count)) => listing_of(count),
+        _ => Err(CommandFault::NoSuchCommand),
+    }
 }
 
 // A list of so many explanations; more than the shelf has places for are asked for as one more.

@@ -1,8 +1,8 @@
 // A sheet with commands, and what is printed for them.
 ghost use Rattle.std.specs.Prelude.{◌≤◌, length};
 
-use crate::answers::write_command;
-use crate::commands::{Command, CommandFault, MOST};
+use crate::answers::{write_fault, write_reply};
+use crate::commands::{Command, CommandFault, MOST, Reply};
 use atoms::AtomSet;
 use histories::{Entry, replay};
 use sheets::Sheet;
@@ -11,14 +11,8 @@ use std::alloc::{AllocError, Global};
 use std::str::from_utf8;
 use wording::{Page, refusal_line};
 
-// A line with a command, and how many calls come before its own.
-// The calls of all turns stand in one list, since one run answers them.
-#[derive(Drop)]
-struct Turn<'a> {
-    line: &'a str,
-    command: Result<Command, CommandFault>,
-    before: usize,
-}
+// What is kept of a line until the calls of all lines are answered: two bytes, since a session may have many lines.
+type Turn = Result<Reply, CommandFault>;
 
 // Where the sheet ends: at an empty line, or else at the end of the text.
 fn sheet_end(text: &[u8]) -> usize
@@ -35,21 +29,18 @@ pub fn sheet_part(text: &[u8]) -> &[u8] {
     &text[..sheet_end(text)]
 }
 
-// The turns of a session, whose calls are added to the entries, to be answered.
-fn read_turns<'a>(
+// The turns of a session, whose calls are added to the entries, to be answered. The calls of all turns stand in one list,
+// since one run answers them.
+fn read_turns(
     heap: Global,
     sheet: &Sheet<'_>,
-    commands: &'a str,
+    commands: &str,
     entries: &mut Vec<Entry>,
-) -> Result<Vec<Turn<'a>>, AllocError> {
+) -> Result<Vec<Turn>, AllocError> {
     let mut turns = Vec::new(heap);
     for line in commands.lines().filter(|line| !line.is_empty()) {
         let command = Command::read(sheet, line);
-        turns.push(Turn {
-            line,
-            command,
-            before: entries.len(),
-        })?;
+        turns.push(command.map(Command::reply))?;
         if let Ok(command) = command {
             command.add_calls(entries)?;
         }
@@ -57,17 +48,38 @@ fn read_turns<'a>(
     Ok(turns)
 }
 
-// Adds a command after `> `, and under it what it is answered.
-fn write_turn(page: &mut Page<'_>, turn: &Turn<'_>, entries: &[Entry]) -> Result<(), AllocError> {
-    let line = turn.line;
-    write!(page, "> {line}\n")?;
-    match turn.command {
-        Ok(command) => {
-            let (before, calls) = entries.split_at(turn.before.min(entries.len()));
-            write_command(page, command, before, calls)
-        }
-        Err(fault) => write!(page, "{fault}\n"),
+// Adds a line after `> `, and under it what it is answered.
+fn write_turn(
+    page: &mut Page<'_>,
+    line: &str,
+    turn: Turn,
+    before: &[Entry],
+    calls: &[Entry],
+) -> Result<(), AllocError> {
+    page.add(b"> ")?;
+    page.add(line.as_bytes())?;
+    page.add(b"\n")?;
+    match turn {
+        Ok(reply) => write_reply(page, line, reply, before, calls),
+        Err(fault) => write_fault(page, fault),
     }
+}
+
+// Adds all lines, and under each what it is answered.
+fn write_turns(
+    page: &mut Page<'_>,
+    commands: &str,
+    turns: &[Turn],
+    entries: &[Entry],
+) -> Result<(), AllocError> {
+    let mut made: usize = 0;
+    let lines = commands.lines().filter(|line| !line.is_empty());
+    for (line, turn) in lines.zip(turns) {
+        let (before, calls) = entries.split_at(made.min(entries.len()));
+        write_turn(page, line, *turn, before, calls)?;
+        made = made.saturating_add(turn.map_or(0, |reply| reply.call_count(calls)));
+    }
+    Ok(())
 }
 
 // Answers commands on a case over the sheet.
@@ -78,9 +90,7 @@ fn answer(heap: Global, sheet: &Sheet<'_>, commands: &str) -> Result<Vec<u8>, Al
     let mut shelf = FlatShelf::new(&mut memory);
     let _ = replay(sheet, &mut shelf, &mut entries);
     let mut page = Page::new(heap, sheet);
-    for turn in &turns {
-        write_turn(&mut page, turn, &entries)?;
-    }
+    write_turns(&mut page, commands, &turns, &entries)?;
     Ok(page.into_text())
 }
 
