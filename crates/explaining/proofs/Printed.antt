@@ -36,7 +36,7 @@ module _ {names rows : List (List ℕ)} (k : Content names rows) (sets : List At
   few = omega (arith, length-map sets bits, ap length f.out_is, length-take most f.ms)
 
   -- every atom has a name, and the buffer suffices
-  never : (room : ℕ) → longest_report ≤ room → (g : WriteRefusal) → Due text doc room g → ⊥
+  pub never : (room : ℕ) → longest_report ≤ room → (g : WriteRefusal) → Due text doc room g → ⊥
   never room h g d =
       nothing_wrong text doc room names is_line k.apart (λ u. named names rows k sets most complete f u.0 u.1 u.2) (λ z. z)
       (omega (arith, report_short names k.names_ok sets few complete)) g d.wrong

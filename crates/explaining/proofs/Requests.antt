@@ -63,7 +63,7 @@ module _ {S : Type 0} {f : S → List Clause} {cs : List Clause} {places : ℕ} 
   Answers r =
       Sound (clauses_of f l) l (map bits ts) → (ms : List ℕ) → Explanations language (clauses_of f l) ms → Answered ms (map bits ts) room r
 
-  told : Sound (clauses_of f l) l (map bits ts)
+  pub told : Sound (clauses_of f l) l (map bits ts)
   told = subst (λ (d : List Clause). Sound d l (map bits ts)) (sym g.clauses) g.sound
 
   answered : (r : Reply) → Answers r → Answered (whole cs) (map bits ts) room r

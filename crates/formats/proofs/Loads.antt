@@ -51,7 +51,7 @@ module _ (text : List ℕ) (f : NamesLine) (l : FirstLine text f) where
         ∙ (ap (λ r. line (words text) ++ r) (rows_from.is ∙ ap (λ r. flat_map clause_line (rows_of f.count count (drop f.size text)) ++ r) (drop-drop (count * (2 * f.count)) f.size text))
         ∙ sym (append_assoc (line (words text)) (flat_map clause_line (rows_of f.count count (drop f.size text))) (drop (place f.size f.count count) text))))
 
-  refused_clause : (at : ℕ) → length text ≤ longest → Apart (words text) → Stops rest f.count 0 at → Says text (outcome_of (Clause at))
+  pub refused_clause : (at : ℕ) → length text ≤ longest → Apart (words text) → Stops rest f.count 0 at → Says text (outcome_of (Clause at))
   refused_clause at h a s =
       let p = place f.size f.count s.count in
       let z : f.size + place 0 f.count s.count ≡ p = omega arith in

@@ -30,13 +30,13 @@ module _ (rs : List ShelfRecord) (c : ℕ) (s : AtomSet) where
   }
 
   -- a link leads down
-  walk_falls : (v : ℕ) → 0 < v → LinksLead rs → Walked rs c s v → link_at rs (v - 1) < v
+  pub walk_falls : (v : ℕ) → 0 < v → LinksLead rs → Walked rs c s v → link_at rs (v - 1) < v
   walk_falls v pos links w =
       let below : v - 1 < length rs = omega (arith, w.low) in
       omega (arith, links (v - 1) below, last_low rs (chain_at rs (v - 1)) (v - 1))
 
   -- the set at the link is not contained in `s`
-  walk_on : (v : ℕ) → 0 < v → LinksLead rs → (bits (set_at rs (v - 1)) ⊆ bits s → ⊥) → Walked rs c s v
+  pub walk_on : (v : ℕ) → 0 < v → LinksLead rs → (bits (set_at rs (v - 1)) ⊆ bits s → ⊥) → Walked rs c s v
       → Walked rs c s (link_at rs (v - 1))
   walk_on v pos links out w =
       let p : ℕ = v - 1 in
@@ -56,7 +56,7 @@ module _ (rs : List ShelfRecord) (c : ℕ) (s : AtomSet) where
       }
 
   -- the atoms that the run at the link shares are not all in `s`
-  walk_past : (v : ℕ) → 0 < v → Runs rs → (bits (get_or rs (v - 1) blank).common ⊆ bits s → ⊥) → Walked rs c s v
+  pub walk_past : (v : ℕ) → 0 < v → Runs rs → (bits (get_or rs (v - 1) blank).common ⊆ bits s → ⊥) → Walked rs c s v
       → Walked rs c s (get_or rs (v - 1) blank).skip
   walk_past v pos runs out w =
       let p : ℕ = v - 1 in
@@ -76,7 +76,7 @@ module _ (rs : List ShelfRecord) (c : ℕ) (s : AtomSet) where
       }
 
   -- the set at the link is contained in `s`
-  walk_finds : (v : ℕ) → 0 < v → bits (set_at rs (v - 1)) ⊆ bits s → Walked rs c s v → Holds (sets_of rs) s
+  pub walk_finds : (v : ℕ) → 0 < v → bits (set_at rs (v - 1)) ⊆ bits s → Walked rs c s v → Holds (sets_of rs) s
   walk_finds v pos sub w =
       let below : v - 1 < length rs = omega (arith, w.low) in
       let within : v - 1 < length (sets_of rs) = omega (arith, length-map rs (λ r. r.set)) in (

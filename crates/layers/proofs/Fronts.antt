@@ -8,7 +8,7 @@ use Rattle.models.specs.Models.{first_broken}
 use Rattle.models.proofs.Broken.{first_after, first_from, first_some, none_model}
 
 module _ (xs ys : List Clause) (s : ℕ) where
-  front_some : (c : Clause) → first_broken language xs s ≡ Some c → first_broken language (xs ++ ys) s ≡ Some c
+  pub front_some : (c : Clause) → first_broken language xs s ≡ Some c → first_broken language (xs ++ ys) s ≡ Some c
   front_some c e =
       let r = first_some laws xs s c e in
       first_from laws (xs ++ ys) s c
@@ -20,7 +20,7 @@ module _ (xs ys : List Clause) (s : ℕ) where
         broken = r.broken;
       })
 
-  front_none : first_broken language xs s ≡ None → first_broken language (xs ++ ys) s ≡ first_broken language ys s
+  pub front_none : first_broken language xs s ≡ None → first_broken language (xs ++ ys) s ≡ first_broken language ys s
   front_none e = first_after laws xs ys s (none_model laws xs s e)
 
   -- the answer of the first list, or else that of the second

@@ -116,7 +116,7 @@ split_live cs n b k = subst (λ (x : Branch). 0 < bits x.left) (sym k.begun) k.s
 pub found_model : (cs : List Clause) (ts : List AtomSet) (n : Node) (s : AtomSet) → Found cs ts n s → Model language cs (bits s)
 found_model cs ts n s k = subst (λ (x : AtomSet). Model language cs (bits x)) (sym k.set) (none_model laws cs (bits n.taken) k.model)
 
-dead_here :
+pub dead_here :
     (cs : List Clause) (ts : List AtomSet) (st : List Branch) (o : Option Node) → Live st → Here st o → Standing language cs (map bits ts) (map row_of st) →
     Ended cs ts o → Back language cs (map bits ts) (map row_of st)
 dead_here cs ts st None live h v clashes = denied_here cs (map bits ts) st live h v
