@@ -10,5 +10,9 @@ use std::alloc::{AllocError, Global};
 pub fn copy_clauses(heap: Global, sheet: &Sheet<'_>) -> Result<Vec<Clause>, AllocError>
     ensures { IfOk result (λ v. v.items ≡ clauses sheet.now) }
 {
-    sheet.clauses().collect(heap)
+    let mut records = Vec::with_capacity(heap, sheet.clause_count())?;
+    for clause in sheet.clauses() {
+        records.push(clause)?;
+    }
+    Ok(records)
 }
