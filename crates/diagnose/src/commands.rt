@@ -3,8 +3,6 @@ use atoms::{Atom, AtomSet};
 use histories::{Call, Entry};
 use sheets::Sheet;
 use std::alloc::AllocError;
-use std::error::Error;
-use std::fmt;
 use std::iter::{once, repeat_n};
 use std::str::SplitWhitespace;
 
@@ -52,14 +50,6 @@ impl CommandFault {
     }
 }
 
-impl fmt::Display for CommandFault {
-    fn fmt<W: fmt::Write>(&self, f: &mut fmt::Formatter<W>) -> fmt::Result {
-        f.write_str(self.words())
-    }
-}
-
-impl Error for CommandFault {}
-
 impl Command {
     // Reads a line. The names of a question are not read: `named_set` reads them where it is answered.
     pub fn read(sheet: &Sheet<'_>, line: &str) -> Result<Command, CommandFault> {
@@ -97,7 +87,7 @@ impl Command {
 }
 
 impl Reply {
-    // How many calls a command with this reply makes, which are the first of the calls.
+    // How many calls a command with this reply makes: `calls` begins with them.
     pub fn call_count(self, calls: &[Entry]) -> usize {
         match self {
             Reply::Answer => 1,
@@ -128,7 +118,7 @@ pub fn named_set(sheet: &Sheet<'_>, line: &str) -> Result<AtomSet, CommandFault>
     Ok(set)
 }
 
-// A command of a word and at most one later word. None is asked for after the last, since blanks would be read again.
+// A command of a word and at most one later word. No word is asked for after the last one: the blanks behind it would be read again.
 fn with_argument(
     sheet: &Sheet<'_>,
     word: &str,

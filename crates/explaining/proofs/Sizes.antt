@@ -1,9 +1,9 @@
 -- How long a report can get.
 use Rattle.std.proofs.Common.{ℕ, ◌*◌, ◌≤◌, Bool, true, false, List, [], ◌∷◌, length, arith, length-append}
-use Rattle.std.specs.List.{AllByRecursion}
 use Rattle.std.proofs.lemmas.Nat.{mul-le}
 use Rattle.atoms.specs.declared.AtomSet.{AtomSet}
-use Rattle.formats.specs.Format.{Name, Names, line}
+use Rattle.formats.specs.Format.{Names, line}
+use Rattle.formats.proofs.Splits.{length-line}
 use Rattle.writers.specs.Documents.Document.{report}
 use Rattle.writers.specs.Documents.{last_line, lines_under, mark_of, text_of}
 use Rattle.writers.proofs.Fills.{length_text}
@@ -12,13 +12,6 @@ use Rattle.explaining.specs.Reports.{most}
 -- `LONGEST_REPORT`
 abbrev pub longest_report : ℕ
 longest_report = 33861
-
--- a name has at most 16 bytes, and one byte stands after it
-length-line : (ws : List (List ℕ)) → 1 ≤ length ws → AllByRecursion Name ws → length (line ws) ≤ 17 * length ws
-length-line [] h a = absurd (omega arith)
-length-line (w ∷ []) h a = omega (arith, length-append w (10 ∷ []), a.0.few)
-length-line (w ∷ x ∷ ws) h a =
-    omega (arith, length-append w (32 ∷ line (x ∷ ws)), a.0.few, length-line (x ∷ ws) (omega arith) a.1)
 
 last_short : (complete : Bool) → length (last_line complete) ≤ 5
 last_short true = omega arith

@@ -1,10 +1,12 @@
 -- The words of the line that a text begins with.
-use Rattle.std.proofs.Common.{◌≡◌, ℕ, zero, suc, ◌+◌, ◌*◌, ◌<◌, ◌≤◌, Bool, true, false, cond, eqb, ◌⊎◌, List, [], ◌∷◌, ◌++◌, length, get_or, take, drop, MatchBool, ◌≢◌, sym, refl, ap, ◌∙◌, subst, inl, inr, ⊎_elim, arith}
+use Rattle.std.proofs.Common.{◌≡◌, ℕ, zero, suc, ◌+◌, ◌-◌, ◌*◌, ◌<◌, ◌≤◌, Bool, true, false, cond, eqb, ◌⊎◌, List, [], ◌∷◌, ◌++◌, length, get_or, take, drop, Some, None, Option, MatchBool, MatchOption, ◌≢◌, sym, refl, ap, ◌∙◌, subst, inl, inr, ⊎_elim, arith}
 use Rattle.std.specs.List.{All, AllByRecursion, AllWithin, HoldsAt}
 use Rattle.std.proofs.ByRecursion.{All-get_or, All-from_get_or}
-use Rattle.std.proofs.lemmas.List.{append-nil, append_assoc, length-append, drop_more, drop_all, drop_at, take_all, take-append-drop, get_or-append-add, length-take-le}
+use Rattle.std.proofs.Math.Seq.{take-append_seam, take-append-add}
+use Rattle.std.proofs.lemmas.List.{append-nil, append_assoc, length-append, drop_more, drop_all, drop_at, take_all, take-append-drop, take-append-le, get_or-append-add, length-take-le}
 use Rattle.std.proofs.lemmas.Bool.{cond-true, cond-false, eq-eqb, ne_eqb, cases_eq}
-use Rattle.formats.specs.Format.{most_names, NameByte, Name, Apart, line, Begins}
+use Rattle.formats.specs.Format.{most_names, longest_line, NameByte, Name, Apart, line, Begins}
+use Rattle.formats.specs.declared.names.NamesLine.{NamesLine}
 use Rattle.formats.specs.Outcomes.{NoNames}
 use Rattle.formats.specs.Places.{FirstLine, words_from, words, Ends, FirstOf, Lacks, NoneOf}
 
@@ -158,6 +160,53 @@ module _ (text : List ℕ) where
         size_is = ap length l ∙ length-take-le (e + 1) text (omega (arith, f.within));
         within = omega (arith, f.within);
       }
+
+-- a name has at most 16 bytes, and one byte stands after it
+pub length-line : (ws : List (List ℕ)) → 1 ≤ length ws → AllByRecursion Name ws → length (line ws) ≤ 17 * length ws
+length-line [] h a = absurd (omega arith)
+length-line (w ∷ []) h a = omega (arith, length-append w (10 ∷ []), a.0.few)
+length-line (w ∷ x ∷ ws) h a =
+    omega (arith, length-append w (32 ∷ line (x ∷ ws)), a.0.few, length-line (x ∷ ws) (omega arith) a.1)
+
+-- it lies within the longest line
+module _ (text : List ℕ) where
+  abbrev front : List ℕ
+  front = take longest_line text
+
+  pub none_past : NoNames front → NoNames text
+  none_past n names rest b =
+      let l = line names in
+      let h : length l ≤ longest_line = omega (arith, length-line names b.names_ok.some b.names_ok.each, b.names_ok.few) in
+      let k : ℕ = longest_line - length l in
+      let e : length l + k ≡ longest_line = omega (arith, h) in
+      n names (take k rest)
+      (record {
+        names_ok = b.names_ok;
+        is = ap (take longest_line) b.is ∙ (ap (λ m. take m (l ++ rest)) (sym e) ∙ take-append-add l rest k);
+      })
+
+  pub first_past : (l : NamesLine) → FirstLine front l → FirstLine text l
+  first_past l f =
+      let whole : front ++ drop longest_line text ≡ text = take-append-drop longest_line text in
+      let p : take l.size text ≡ line f.names =
+      ap (take l.size) (sym whole)
+      ∙ (take-append-le l.size front (drop longest_line text) f.within
+      ∙ (ap (take l.size) f.begins.is
+      ∙ (ap (λ m. take m (line f.names ++ drop l.size front)) (sym f.size_is) ∙ take-append_seam (line f.names) (drop l.size front)))) in
+      record {
+        names = f.names;
+        begins = record {
+          names_ok = f.begins.names_ok;
+          is = sym (take-append-drop l.size text) ∙ ap (λ x. x ++ drop l.size text) p;
+        };
+        count_is = f.count_is;
+        size_is = f.size_is;
+        within = omega (arith, f.within, ap length whole, length-append front (drop longest_line text));
+      }
+
+  pub read_past : (r : Option NamesLine) → MatchOption r (NoNames front) (FirstLine front) → MatchOption r (NoNames text) (FirstLine text)
+  read_past None n = none_past n
+  read_past (Some l) f = first_past l f
 
 -- ---- the names one after another
 

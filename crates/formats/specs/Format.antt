@@ -12,6 +12,10 @@ most_names = 64
 abbrev pub longest_name : ℕ
 longest_name = 16
 
+-- the most bytes of line 1: one byte stands after each name
+abbrev pub longest_line : ℕ
+longest_line = 1088
+
 -- a byte of a name: a to z, 0 to 9 or '-'
 abbrev pub NameByte : ℕ → Type 0
 NameByte b = ((97 ≤ b) × (b ≤ 122)) ⊎ (((48 ≤ b) × (b ≤ 57)) ⊎ (b ≡ 45))

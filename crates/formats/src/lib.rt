@@ -20,6 +20,9 @@ pub const MOST_NAMES: usize = 64;
 
 pub const LONGEST_NAME: usize = 16;
 
+// The most bytes of line 1: one byte stands after each name.
+const LONGEST_LINE: usize = MOST_NAMES * (LONGEST_NAME + 1);
+
 // A text has one outcome: an accepted text means one list of names and one list of clauses, and a refused one has one refusal.
 pub fn one_outcome()
     ensures { OneOutcome }

@@ -1,5 +1,5 @@
 // The words of the line that a text begins with.
-ghost use Rattle.std.specs.Prelude.{◌≡◌, ◌∷◌, ◌+◌, ◌≤◌, length, Decides, MatchBool, MatchOption};
+ghost use Rattle.std.specs.Prelude.{◌≡◌, ◌∷◌, ◌+◌, ◌≤◌, length, MatchBool, MatchOption};
 ghost use Rattle.std.specs.Iterator.{YieldsFirstRef, item_count};
 ghost use Rattle.formats.specs.Format.{Apart};
 ghost use Rattle.formats.specs.Places.{Ends, FirstAt, FirstOf, Lacks, NoneOf, WordIs, words, words_left, words_of};

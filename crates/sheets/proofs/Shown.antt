@@ -1,5 +1,5 @@
 -- The lines and the clauses that are handed out.
-use Rattle.std.proofs.Common.{◌≡◌, ℕ, zero, suc, ◌+◌, ◌-◌, ◌<◌, ◌≤◌, List, [], ◌∷◌, ◌++◌, length, length-drop, get_or, drop, sym, refl, ap, ◌∙◌, subst, arith}
+use Rattle.std.proofs.Common.{◌≡◌, ℕ, zero, suc, ◌+◌, ◌-◌, ◌<◌, ◌≤◌, List, [], ◌∷◌, ◌++◌, length, get_or, drop, sym, refl, ap, ◌∙◌, subst, arith}
 use Rattle.std.specs.List.{flat_map}
 use Rattle.std.proofs.lemmas.List.{drop_all, drop_more}
 use Rattle.formats.specs.Format.{line, clause_line}
@@ -91,9 +91,6 @@ module _ (s : Sheet) where
   pub clauses_next : (i : ℕ) (c : Clause) → i < s.layout.clauses → c ≡ get_or (clauses s) i c → drop i (clauses s) ≡ c ∷ drop (i + 1) (clauses s)
   clauses_next i c h e =
       drop_more (clauses s) i c (omega (arith, clauses-count s)) ∙ ap (λ x. x ∷ drop (i + 1) (clauses s)) (sym e)
-
-  pub clauses_size : (i : ℕ) → length (drop i (clauses s)) ≡ s.layout.clauses - i
-  clauses_size i = omega (arith, length-drop i (clauses s), clauses-count s)
 
 joined_clauses : (i : ℕ) (rows : List (List ℕ)) → flat_map line_bytes (clause_lines i rows) ≡ flat_map clause_line rows
 joined_clauses i [] = refl

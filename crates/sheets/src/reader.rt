@@ -79,9 +79,4 @@ impl Iterator for SheetClauses<'_> {
     fn next(&mut self) -> Option<Clause> {
         Some(self.sheet.clause(self.left.next()?))
     }
-
-    // So who collects the clauses takes memory for all of them at once.
-    fn size_hint(&self) -> (usize, Option<usize>) {
-        self.left.size_hint()
-    }
 }
